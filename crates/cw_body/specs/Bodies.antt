@@ -6,7 +6,7 @@ use Rattle.cw_strand.specs.declared.want.Want.TheVariants.{Begin, End}
 use Rattle.cw_strand.specs.declared.want.Given.{Given}
 use Rattle.cw_strand.specs.declared.want.Given.TheVariants.{Nothing}
 use Rattle.cw_strand.specs.Strands.{Strands, IsAnswer}
-use Rattle.cw_job.specs.Jobs.{bare}
+use Rattle.cw_job.specs.Jobs.{bare_job}
 use Rattle.cw_job.specs.Room.Strands.{StrandState, strands_of_job}
 use Rattle.cw_body.specs.declared.stage.Stage.{Stage}
 use Rattle.cw_body.specs.declared.stage.Stage.TheVariants.{Goes, GaveUp, Lost}
@@ -25,7 +25,7 @@ pub record InBlocks : Type 0 where
 
 -- the strands of a program, whatever its words and limits
 abbrev pub strands_of_program : Program → Strands StrandState
-strands_of_program program = strands_of_job (bare program)
+strands_of_program program = strands_of_job (bare_job program)
 
 -- what it stands at
 abbrev pub want_of : InBlocks → Want
@@ -69,12 +69,12 @@ module _ (s : Strands StrandState) where
   answered given b = record b { state = s.answer b.state given }
 
   -- the block of which it wants the begin is around it
-  abbrev pub begun : InBlocks → InBlocks
-  begun b = record b { state = s.answer b.state Nothing; begins = record { at = b.state; forks = 0 } ∷ b.begins }
+  abbrev pub body_in_block : InBlocks → InBlocks
+  body_in_block b = record b { state = s.answer b.state Nothing; begins = record { at = b.state; forks = 0 } ∷ b.begins }
 
   -- the innermost block is no more around it
-  abbrev pub ended : InBlocks → InBlocks
-  ended b = record b { state = s.answer b.state Nothing; begins = drop 1 b.begins }
+  abbrev pub body_behind_block : InBlocks → InBlocks
+  body_behind_block b = record b { state = s.answer b.state Nothing; begins = drop 1 b.begins }
 
   -- the left strand of the fork that it wants has no block around it, the right one those of the strand that forked
   abbrev pub left_of : InBlocks → InBlocks
@@ -84,8 +84,8 @@ module _ (s : Strands StrandState) where
   right_of b = record b { state = s.right b.state; begins = map one_fork_more b.begins }
 
   -- the right one, at its end, becomes the strand that forked
-  abbrev pub joined : (right left : InBlocks) → InBlocks
-  joined right left = record right { state = s.joined right.state left.state; begins = map one_fork_less right.begins }
+  abbrev pub joined_body : (right left : InBlocks) → InBlocks
+  joined_body right left = record right { state = s.joined right.state left.state; begins = map one_fork_less right.begins }
 
 abbrev pub gave_up : InBlocks → InBlocks
 gave_up b = record b { stage = GaveUp }

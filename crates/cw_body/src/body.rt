@@ -5,7 +5,7 @@ ghost use Rattle.cw_job.specs.Jobs.{Job, TakesWords};
 ghost use Rattle.cw_job.specs.Room.Strands.{strands_of_job};
 ghost use Rattle.cw_job.specs.Room.Saves.{IsSavedOf};
 ghost use Rattle.cw_body.specs.declared.stage.Stage.TheVariants.{Goes, GaveUp, Lost};
-ghost use Rattle.cw_body.specs.Bodies.{AnswersAct, HasNoBlock, IsLost, answered, begun, elements_of, ended, forgot, gave_up, goes_from, joined, left_of, right_of, want_of, went_back};
+ghost use Rattle.cw_body.specs.Bodies.{AnswersAct, HasNoBlock, IsLost, answered, body_in_block, elements_of, body_behind_block, forgot, gave_up, goes_from, joined_body, left_of, right_of, want_of, went_back};
 
 use crate::Stage;
 use crate::begin::Begin;
@@ -98,7 +98,7 @@ impl Body {
         requires program { program.now ≡ self.old.program }
         requires begin { want_of self.old ≡ Want.Begin }
         requires saved { IsSavedOf program.now saved self.old.state }
-        ensures ok { OnOk result ((job : Job) → job.program ≡ program.now → self.new ≡ begun (strands_of_job job) self.old) }
+        ensures ok { OnOk result ((job : Job) → job.program ≡ program.now → self.new ≡ body_in_block (strands_of_job job) self.old) }
         ensures err { OnErr result (IsLost self.old self.new) }
     {
         let begin = Begin {
@@ -119,7 +119,7 @@ impl Body {
         requires program { program.now ≡ self.old.program }
         requires end { want_of self.old ≡ Want.End }
         requires block { 0 < length self.old.begins }
-        ensures ok { OnOk result ((job : Job) → job.program ≡ program.now → self.new ≡ ended (strands_of_job job) self.old) }
+        ensures ok { OnOk result ((job : Job) → job.program ≡ program.now → self.new ≡ body_behind_block (strands_of_job job) self.old) }
         ensures err { OnErr result (IsLost self.old self.new) }
     {
         self.stage = Snapshot::of(&Stage::Lost);
@@ -161,7 +161,7 @@ impl Body {
         requires program { program.now ≡ self.old.program }
         requires over { is_over (want_of self.old) ≡ true }
         requires blocks { HasNoBlock self.old }
-        ensures ok { OnOk result ((job : Job) → job.program ≡ program.now → self.new ≡ joined (strands_of_job job) self.old left) }
+        ensures ok { OnOk result ((job : Job) → job.program ≡ program.now → self.new ≡ joined_body (strands_of_job job) self.old left) }
         ensures err { OnErr result (IsLost self.old self.new) }
     {
         let Body { standing, .. } = left;

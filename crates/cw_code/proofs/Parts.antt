@@ -1,5 +1,5 @@
 -- Open parts: how many are left of each kind, and when two nestings are the same.
-use Rattle.std.proofs.Common.{◌≡◌, ℕ, zero, suc, ◌+◌, ◌-◌, ◌<◌, Bool, true, false, ◌&&◌, List, [], ◌∷◌, ◌++◌, replicate, Option, Some, refl, sym, ap, ◌∙◌, arith}
+use Rattle.std.proofs.Common.{◌≡◌, ℕ, zero, suc, ◌+◌, ◌-◌, Bool, true, false, ◌&&◌, List, [], ◌∷◌, ◌++◌, replicate, Option, Some, refl, sym, ap, ◌∙◌, arith}
 use Rattle.std.specs.Prelude.{◌==◌, if◌then◌else◌}
 use Rattle.std.proofs.lemmas.Bool.{and_parts, ne_eqb}
 use Rattle.cw_code.specs.declared.situation.Part.{Part}
@@ -8,7 +8,7 @@ use Rattle.cw_code.specs.declared.instruction.Instr.{Instr}
 use Rattle.cw_code.specs.declared.instruction.Code.{Code}
 use Rattle.cw_code.specs.declared.effects.Effect.{Effect}
 use Rattle.cw_code.specs.Table.{begin, end, fork, done}
-use Rattle.cw_code.specs.Rules.{Situation, is_part, parts_in, blocks_in, without, parts_after, passed, onwards, is_in_block, same_parts}
+use Rattle.cw_code.specs.Rules.{Situation, is_part, parts_in, blocks_in, without_part, parts_after, passed, onwards, same_parts}
 
 -- ## Kinds
 
@@ -53,15 +53,15 @@ blocks_after (Some begin) n = n + 1
 blocks_after (Some end) n = n - 1
 blocks_after e n = n
 
-pub one_fewer : (p : Part) (ps : List Part) → parts_in p (without p ps) ≡ parts_in p ps - 1
+pub one_fewer : (p : Part) (ps : List Part) → parts_in p (without_part p ps) ≡ parts_in p ps - 1
 one_fewer p [] = omega arith
 one_fewer p (q ∷ qs) = either (one_fewer p qs) (is_part p q) refl
   where
-    either : parts_in p (without p qs) ≡ parts_in p qs - 1 → (b : Bool) → is_part p q ≡ b → parts_in p (if b then qs else q ∷ without p qs) ≡ (if b then parts_in p qs + 1 else parts_in p qs) - 1
+    either : parts_in p (without_part p qs) ≡ parts_in p qs - 1 → (b : Bool) → is_part p q ≡ b → parts_in p (if b then qs else q ∷ without_part p qs) ≡ (if b then parts_in p qs + 1 else parts_in p qs) - 1
     either rest true e = omega arith
-    either rest false e = ap (λ b. if b then parts_in p (without p qs) + 1 else parts_in p (without p qs)) e ∙ rest
+    either rest false e = ap (λ b. if b then parts_in p (without_part p qs) + 1 else parts_in p (without_part p qs)) e ∙ rest
 
-pub others_stay : (p o : Part) (ps : List Part) → is_part p o ≡ false → parts_in o (without p ps) ≡ parts_in o ps
+pub others_stay : (p o : Part) (ps : List Part) → is_part p o ≡ false → parts_in o (without_part p ps) ≡ parts_in o ps
 others_stay p o [] ne = refl
 others_stay block forked (block ∷ qs) ne = refl
 others_stay block forked (forked ∷ qs) ne = ap (λ n. n + 1) (others_stay block forked qs ne)
@@ -84,12 +84,6 @@ module _ (c : Code) (i : Instr) where
   blocks_onwards (Some fork) s = refl
   blocks_onwards e s = blocks_left e s.parts
 
--- in a block there is one
-pub block_there : (ps : List Part) → is_in_block ps ≡ true → 0 < blocks_in ps
-block_there [] e = cc
-block_there (block ∷ ps) e = omega arith
-block_there (forked ∷ ps) e = cc
-
 -- ## Parts of the other kind in front
 
 -- there is another kind
@@ -101,13 +95,13 @@ pub one_before : (q : Part) (k : ℕ) (ps : List Part) → replicate k q ++ q �
 one_before q zero ps = refl
 one_before q (suc k) ps = let e : suc k + 1 ≡ suc (k + 1) = omega arith in ap (λ l. q ∷ l) (one_before q k ps) ∙ ap (λ n. replicate n q ++ ps) (sym e)
 
-pub without_behind : (p q : Part) (k : ℕ) (ps : List Part) → is_part p q ≡ false → without p (replicate k q ++ ps) ≡ replicate k q ++ without p ps
+pub without_behind : (p q : Part) (k : ℕ) (ps : List Part) → is_part p q ≡ false → without_part p (replicate k q ++ ps) ≡ replicate k q ++ without_part p ps
 without_behind p q zero ps ne = refl
 without_behind p q (suc k) ps ne =
-    ap (λ b. if b then replicate k q ++ ps else q ∷ without p (replicate k q ++ ps)) ne ∙ ap (λ l. q ∷ l) (without_behind p q k ps ne)
+    ap (λ b. if b then replicate k q ++ ps else q ∷ without_part p (replicate k q ++ ps)) ne ∙ ap (λ l. q ∷ l) (without_behind p q k ps ne)
 
-pub without_first : (p r : Part) (ps : List Part) → is_part p r ≡ true → without p (r ∷ ps) ≡ ps
-without_first p r ps e = ap (λ b. if b then ps else r ∷ without p ps) e
+pub without_first : (p r : Part) (ps : List Part) → is_part p r ≡ true → without_part p (r ∷ ps) ≡ ps
+without_first p r ps e = ap (λ b. if b then ps else r ∷ without_part p ps) e
 
 -- how many parts of a kind there are, by the innermost part
 pub parts_in_first : (p r : Part) (ps : List Part) → is_part p r ≡ true → (parts_in p (r ∷ ps) == 0) ≡ false

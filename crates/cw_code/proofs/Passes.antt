@@ -9,7 +9,7 @@ use Rattle.cw_code.specs.declared.instruction.CodeFault.{CodeFault}
 use Rattle.cw_code.specs.declared.instruction.Instr.{Instr}
 use Rattle.cw_code.specs.declared.instruction.Func.{Func}
 use Rattle.cw_code.specs.declared.instruction.Code.{Code}
-use Rattle.cw_code.specs.Rules.{Situation, Known, effect_of, pops, when, at_start, passed, onwards, never_passed, next_of, target_of, Places, offered, give, visit, pass, passes, begun, size_of, places, situation_of, known_at, is_border, same, same_parts, uneven_faults, situation_faults, faults_at, place_faults}
+use Rattle.cw_code.specs.Rules.{Situation, Known, effect_of, pops, when, at_start, passed, onwards, never_passed, next_of, target_of, Places, offered, give, visit, pass, places_after_passes, begun, size_of, places, situation_of, known_at, is_border, same, same_parts, uneven_faults, situation_faults, faults_at, place_faults}
 use Rattle.cw_code.proofs.Fold.{next_inside, target_inside}
 use Rattle.cw_code.proofs.Visits.{length_begun}
 use Rattle.cw_code.proofs.KnownPlaces.{IsKnown, known_in, known_few, IsWithin, within_same}
@@ -201,7 +201,7 @@ module _ (c : Code) (f : Func) (expected : ℕ → Situation) where
         none (suc n) (suc k) e = none n k e
 
     abbrev after : ℕ → Places
-    after n = passes c f (size_of f) n (begun f (size_of f))
+    after n = places_after_passes c f (size_of f) n (begun f (size_of f))
 
     after_right : (n : ℕ) → IsRight (after n)
     after_right zero = record {

@@ -10,7 +10,7 @@ use Rattle.cw_code.specs.declared.situation.Part.{Part}
 use Rattle.cw_code.specs.declared.situation.Part.TheVariants.{Block as block, Fork as forked}
 use Rattle.cw_code.specs.declared.nestings.Nesting.{Nesting}
 use Rattle.cw_code.specs.Rules.{is_part, same_parts}
-use Rattle.cw_code.specs.Nested.{Nested, parts_at, IsGrown, listed, lists, child, with_child, IsTable}
+use Rattle.cw_code.specs.Nested.{Nested, parts_at, IsGrown, with_nestings, lists, child, with_child, IsTable}
 use Rattle.cw_code.proofs.Parts.{is_part_same, same_parts_itself, same_parts_is}
 
 -- ## Grown tables
@@ -38,46 +38,46 @@ more ns r = ns ++ (r.part ∷ parts_at ns r.outer) ∷ []
 length_more : (ns : Nested) (r : Nesting) → length (more ns r) ≡ length ns + 1
 length_more ns r = length-append ns ((r.part ∷ parts_at ns r.outer) ∷ [])
 
-length_listed : (rs : List Nesting) (ns : Nested) → length (listed ns rs) ≡ length ns + length rs
-length_listed [] ns = omega arith
-length_listed (r ∷ rs) ns = omega (arith, length_listed rs (more ns r), length_more ns r)
+length_with_nestings : (rs : List Nesting) (ns : Nested) → length (with_nestings ns rs) ≡ length ns + length rs
+length_with_nestings [] ns = omega arith
+length_with_nestings (r ∷ rs) ns = omega (arith, length_with_nestings rs (more ns r), length_more ns r)
 
 -- what is there stays
-listed_old : (rs : List Nesting) (ns : Nested) (n : ℕ) → n < length ns → parts_at (listed ns rs) n ≡ parts_at ns n
-listed_old [] ns n lt = refl
-listed_old (r ∷ rs) ns n lt = listed_old rs (more ns r) n (omega (arith, length_more ns r)) ∙ (grown_by ns (r.part ∷ parts_at ns r.outer)).same n lt
+with_nestings_old : (rs : List Nesting) (ns : Nested) (n : ℕ) → n < length ns → parts_at (with_nestings ns rs) n ≡ parts_at ns n
+with_nestings_old [] ns n lt = refl
+with_nestings_old (r ∷ rs) ns n lt = with_nestings_old rs (more ns r) n (omega (arith, length_more ns r)) ∙ (grown_by ns (r.part ∷ parts_at ns r.outer)).same n lt
 
 -- a row stands for its part in what is around it
-listed_row : (rs : List Nesting) (ns : Nested) (k n : ℕ) (r : Nesting) → slice_get rs k ≡ Some r → n ≡ length ns + k → r.outer < n → parts_at (listed ns rs) n ≡ r.part ∷ parts_at (listed ns rs) r.outer
-listed_row [] ns k n r is e lt = cc
-listed_row (q ∷ rs) ns zero n r is e lt =
+with_nestings_row : (rs : List Nesting) (ns : Nested) (k n : ℕ) (r : Nesting) → slice_get rs k ≡ Some r → n ≡ length ns + k → r.outer < n → parts_at (with_nestings ns rs) n ≡ r.part ∷ parts_at (with_nestings ns rs) r.outer
+with_nestings_row [] ns k n r is e lt = cc
+with_nestings_row (q ∷ rs) ns zero n r is e lt =
     let same : q ≡ r = cc in
     let at : n ≡ length ns = omega arith in
-    let here : parts_at (listed (more ns r) rs) n ≡ parts_at (more ns r) n = listed_old rs (more ns r) n (omega (arith, length_more ns r)) in
+    let here : parts_at (with_nestings (more ns r) rs) n ≡ parts_at (more ns r) n = with_nestings_old rs (more ns r) n (omega (arith, length_more ns r)) in
     let seam : parts_at (more ns r) n ≡ r.part ∷ parts_at ns r.outer = ap (parts_at (more ns r)) at ∙ get_or-append_seam ns (r.part ∷ parts_at ns r.outer) [] [] in
-    let around : parts_at (listed (more ns r) rs) r.outer ≡ parts_at ns r.outer = listed_old (r ∷ rs) ns r.outer (omega arith) in
-    subst (λ x. parts_at (listed (more ns x) rs) n ≡ r.part ∷ parts_at (listed (more ns x) rs) r.outer) (sym same) (here ∙ seam ∙ ap (λ ps. r.part ∷ ps) (sym around))
-listed_row (q ∷ rs) ns (suc k) n r is e lt = listed_row rs (more ns q) k n r is (omega (arith, length_more ns q)) lt
+    let around : parts_at (with_nestings (more ns r) rs) r.outer ≡ parts_at ns r.outer = with_nestings_old (r ∷ rs) ns r.outer (omega arith) in
+    subst (λ x. parts_at (with_nestings (more ns x) rs) n ≡ r.part ∷ parts_at (with_nestings (more ns x) rs) r.outer) (sym same) (here ∙ seam ∙ ap (λ ps. r.part ∷ ps) (sym around))
+with_nestings_row (q ∷ rs) ns (suc k) n r is e lt = with_nestings_row rs (more ns q) k n r is (omega (arith, length_more ns q)) lt
 
 -- one row more
-listed_more : (rs : List Nesting) (ns : Nested) (r : Nesting) → listed ns (rs ++ r ∷ []) ≡ more (listed ns rs) r
-listed_more [] ns r = refl
-listed_more (q ∷ rs) ns r = listed_more rs (more ns q) r
+with_nestings_more : (rs : List Nesting) (ns : Nested) (r : Nesting) → with_nestings ns (rs ++ r ∷ []) ≡ more (with_nestings ns rs) r
+with_nestings_more [] ns r = refl
+with_nestings_more (q ∷ rs) ns r = with_nestings_more rs (more ns q) r
 
 -- a row with the same part in the same nesting stands for the same
-listed_set : (rs : List Nesting) (ns : Nested) (k : ℕ) (r q : Nesting) → slice_get rs k ≡ Some r → q.part ≡ r.part → q.outer ≡ r.outer → listed ns (slice_set rs k q) ≡ listed ns rs
-listed_set [] ns k r q is part outer = cc
-listed_set (x ∷ rs) ns zero r q is part outer =
+with_nestings_set : (rs : List Nesting) (ns : Nested) (k : ℕ) (r q : Nesting) → slice_get rs k ≡ Some r → q.part ≡ r.part → q.outer ≡ r.outer → with_nestings ns (slice_set rs k q) ≡ with_nestings ns rs
+with_nestings_set [] ns k r q is part outer = cc
+with_nestings_set (x ∷ rs) ns zero r q is part outer =
     let same : x ≡ r = cc in
     let row : q.part ∷ parts_at ns q.outer ≡ x.part ∷ parts_at ns x.outer = rw (part, outer, same) refl in
-    ap (λ ps. listed (ns ++ ps ∷ []) rs) row
-listed_set (x ∷ rs) ns (suc k) r q is part outer = listed_set rs (more ns x) k r q is part outer
+    ap (λ ps. with_nestings (ns ++ ps ∷ []) rs) row
+with_nestings_set (x ∷ rs) ns (suc k) r q is part outer = with_nestings_set rs (more ns x) k r q is part outer
 
 -- ## A table
 
 pub length_lists : (rows : List Nesting) → length (lists rows) ≡ length rows
 length_lists [] = refl
-length_lists (r ∷ rs) = let l : length (listed ([] ∷ []) rs) ≡ length {A = List Part} ([] ∷ []) + length rs = length_listed rs ([] ∷ []) in omega arith
+length_lists (r ∷ rs) = let l : length (with_nestings ([] ∷ []) rs) ≡ length {A = List Part} ([] ∷ []) + length rs = length_with_nestings rs ([] ∷ []) in omega arith
 
 pub row_there : (rows : List Nesting) (k : ℕ) → k < length rows → (r : Nesting) × (slice_get rows k ≡ Some r)
 row_there [] k lt = absurd (omega arith)
@@ -86,11 +86,11 @@ row_there (r ∷ rs) (suc k) lt = row_there rs k (omega arith)
 
 pub no_part : (rows : List Nesting) → parts_at (lists rows) 0 ≡ []
 no_part [] = refl
-no_part (r ∷ rs) = listed_old rs ([] ∷ []) 0 (omega arith)
+no_part (r ∷ rs) = with_nestings_old rs ([] ∷ []) 0 (omega arith)
 
 pub part_in : (rows : List Nesting) → IsTable rows → (k : ℕ) (r : Nesting) → slice_get rows (suc k) ≡ Some r → parts_at (lists rows) (suc k) ≡ r.part ∷ parts_at (lists rows) r.outer
 part_in [] t k r is = cc
-part_in (q ∷ rs) t k r is = listed_row rs ([] ∷ []) k (suc k) r is (omega arith) (t.before k r is)
+part_in (q ∷ rs) t k r is = with_nestings_row rs ([] ∷ []) k (suc k) r is (omega arith) (t.before k r is)
 
 -- a table's first part and what is around it, at a number that is not 0
 pub around : (rows : List Nesting) → IsTable rows → (n : ℕ) (r : Nesting) → slice_get rows n ≡ Some r → n ≢ 0 → (parts_at (lists rows) n ≡ r.part ∷ parts_at (lists rows) r.outer) × (r.outer < n)
@@ -178,10 +178,6 @@ child_other block forked m o ne = refl
 child_other forked block m o ne = refl
 child_other block block m o ne = cc
 child_other forked forked m o ne = cc
-
-none_below : (p : Part) (n : ℕ) → child p (record { part = p; outer = n; block = 0; fork = 0 }) ≡ 0
-none_below block n = refl
-none_below forked n = refl
 
 no_child : (p q : Part) (n : ℕ) → child q (record { part = p; outer = n; block = 0; fork = 0 }) ≡ 0
 no_child p block n = refl
@@ -337,10 +333,10 @@ module _ (rows : List Nesting) (t : IsTable rows) (n : ℕ) (o : Nesting) (there
     where
       by : (rs : List Nesting) (k : ℕ) → slice_get rs k ≡ Some o → lists (slice_set (rs ++ fresh ∷ []) k changed) ≡ lists rs ++ (p ∷ parts_at (lists rs) n) ∷ []
       by [] k is = cc
-      by (x ∷ rs) zero is = listed_more rs ([] ∷ []) fresh
+      by (x ∷ rs) zero is = with_nestings_more rs ([] ∷ []) fresh
       by (x ∷ rs) (suc k) is =
           let s = part_stays p (length rows) o in
-          listed_set (rs ++ fresh ∷ []) ([] ∷ []) k o changed (get_left rs (fresh ∷ []) k (slice_get_within rs k o is) ∙ is) s.0 s.1 ∙ listed_more rs ([] ∷ []) fresh
+          with_nestings_set (rs ++ fresh ∷ []) ([] ∷ []) k o changed (get_left rs (fresh ∷ []) k (slice_get_within rs k o is) ∙ is) s.0 s.1 ∙ with_nestings_more rs ([] ∷ []) fresh
 
 -- ## What a table shows
 

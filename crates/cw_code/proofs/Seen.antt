@@ -12,8 +12,8 @@ use Rattle.cw_code.specs.declared.instruction.Instr.{Instr}
 use Rattle.cw_code.specs.declared.instruction.Func.{Func}
 use Rattle.cw_code.specs.declared.instruction.Code.{Code}
 use Rattle.cw_code.specs.Table.{Effect}
-use Rattle.cw_code.specs.Rules.{Situation, Places, pass, passes, effect_of, earliest, faults_here, operand_faults, situation_faults, faults_at, uneven_faults, known_at, situation_of, next_of, target_of, onwards, passed, offered, give, visit, begun}
-use Rattle.cw_code.specs.Nested.{Nested, IsGrown, situation_at, level_at, level_of, known_by, seen, IsBelow, AreBelow, offered_level, give_level, none_yet}
+use Rattle.cw_code.specs.Rules.{Situation, Places, pass, places_after_passes, effect_of, earliest, faults_here, operand_faults, situation_faults, faults_at, uneven_faults, known_at, situation_of, next_of, target_of, onwards, passed, offered, give, visit, begun}
+use Rattle.cw_code.specs.Nested.{Nested, IsGrown, situation_at, level_at, level_on_arrival, known_by, seen, IsBelow, AreBelow, offered_level, give_level, none_yet}
 use Rattle.cw_code.proofs.Fold.{earliest_append}
 use Rattle.cw_code.proofs.Visits.{settles_at}
 
@@ -22,10 +22,10 @@ use Rattle.cw_code.proofs.Visits.{settles_at}
 pub seen_get : (ns : Nested) (ts : List (Option Arrival)) (k : ℕ) → slice_index_or (seen ns ts) k None ≡ known_by ns (slice_index_or ts k None)
 seen_get ns ts k = get_or-map (known_by ns) ts k None
 
-pub known_seen : (f : Func) (ns : Nested) (ts : List (Option Arrival)) (p : ℕ) → known_at f (seen ns ts) p ≡ level_at ns (level_of (slice_index_or ts (p - f.start) None))
+pub known_seen : (f : Func) (ns : Nested) (ts : List (Option Arrival)) (p : ℕ) → known_at f (seen ns ts) p ≡ level_at ns (level_on_arrival (slice_index_or ts (p - f.start) None))
 known_seen f ns ts p = ap situation_of (seen_get ns ts (p - f.start)) ∙ by (slice_index_or ts (p - f.start) None)
   where
-    by : (o : Option Arrival) → situation_of (known_by ns o) ≡ level_at ns (level_of o)
+    by : (o : Option Arrival) → situation_of (known_by ns o) ≡ level_at ns (level_on_arrival o)
     by None = refl
     by (Some a) = refl
 
@@ -69,18 +69,18 @@ give_seen ns f (Some q) p l ts = either (nat_le q f.start)
         map-set (known_by ns) ts (q - f.start) (offered_level p l (slice_index_or ts (q - f.start) None))
         ∙ ap (slice_set (seen ns ts) (q - f.start)) (offered_seen ns p l (slice_index_or ts (q - f.start) None) ∙ ap (offered p (situation_at ns l)) (sym (seen_get ns ts (q - f.start))))
 
-below_set : (count : ℕ) (ts : List (Option Arrival)) (i : ℕ) (a : Option Arrival) → IsBelow count (level_of a) → AreBelow count ts → AreBelow count (slice_set ts i a)
+below_set : (count : ℕ) (ts : List (Option Arrival)) (i : ℕ) (a : Option Arrival) → IsBelow count (level_on_arrival a) → AreBelow count ts → AreBelow count (slice_set ts i a)
 below_set count [] i a b below k = below k
 below_set count (t ∷ ts) zero a b below zero = b
 below_set count (t ∷ ts) zero a b below (suc k) = below (suc k)
 below_set count (t ∷ ts) (suc i) a b below zero = below 0
 below_set count (t ∷ ts) (suc i) a b below (suc k) = below_set count ts i a b (λ j. below (suc j)) k
 
-offered_below : (count p : ℕ) (l : Level) (o : Option Arrival) → l.nesting < count → IsBelow count (level_of o) → IsBelow count (level_of (offered_level p l o))
+offered_below : (count p : ℕ) (l : Level) (o : Option Arrival) → l.nesting < count → IsBelow count (level_on_arrival o) → IsBelow count (level_on_arrival (offered_level p l o))
 offered_below count p l None lt b = lt
 offered_below count p l (Some a) lt b = either (nat_le p a.from)
   where
-    either : (x : Bool) → IsBelow count (level_of (if x then Some (record { from = p; level = l }) else Some a))
+    either : (x : Bool) → IsBelow count (level_on_arrival (if x then Some (record { from = p; level = l }) else Some a))
     either true = lt
     either false = b
 
@@ -109,7 +109,7 @@ none_below count f zero some k = tt
 none_below count f (suc n) some zero = some
 none_below count f (suc n) some (suc k) = unknown n k
   where
-    unknown : (n k : ℕ) → IsBelow count (level_of (slice_index_or (replicate n None) k None))
+    unknown : (n k : ℕ) → IsBelow count (level_on_arrival (slice_index_or (replicate n None) k None))
     unknown zero k = tt
     unknown (suc n) zero = tt
     unknown (suc n) (suc k) = unknown n k
@@ -142,8 +142,8 @@ same_elements (x ∷ xs) (y ∷ ys) l e =
 -- ## Passes
 
 -- a pass that changed nothing is the last one
-pub ends_here : (c : Code) (f : Func) (size n len all : ℕ) (t : Places) (ns ms : Nested) (u items b : List (Option Arrival)) → IsGrown ns ms → AreBelow (length ns) items → n ≤ all → seen ns items ≡ passes c f size n t
-    → b ≡ items → u ≡ b → seen ms u ≡ pass c f size (seen ns b) → length items ≡ len → seen ms (take len (u ++ drop (length u) items)) ≡ passes c f size all t
+pub ends_here : (c : Code) (f : Func) (size n len all : ℕ) (t : Places) (ns ms : Nested) (u items b : List (Option Arrival)) → IsGrown ns ms → AreBelow (length ns) items → n ≤ all → seen ns items ≡ places_after_passes c f size n t
+    → b ≡ items → u ≡ b → seen ms u ≡ pass c f size (seen ns b) → length items ≡ len → seen ms (take len (u ++ drop (length u) items)) ≡ places_after_passes c f size all t
 ends_here c f size n len all t ns ms u items b grown below le p bi ub up l =
     let ui : u ≡ items = ub ∙ bi in
     let v = seen ns items in
@@ -209,7 +209,7 @@ module _ (c : Code) (f : Func) (p : ℕ) (ns ms ls : Nested) (ts : List (Option 
       let place : slice_index_or t n None ≡ known_by ns (Some a) = seen_get ns ts n ∙ ap (known_by ns) known in
       second ∙ ap (λ x. visit c f p (Some i) x t) (sym place) ∙ ap (λ x. visit c f p x (slice_index_or t n None) t) stands
 
-pub place_judged : (c : Code) (f : Func) (p : ℕ) (ns : Nested) (ts : List (Option Arrival)) (i : Instr) (l : Level) (best first last : Option CodeFault) (o : Option Instr) → Some i ≡ o → Some l ≡ level_of (slice_index_or ts (p - f.start) None)
+pub place_judged : (c : Code) (f : Func) (p : ℕ) (ns : Nested) (ts : List (Option Arrival)) (i : Instr) (l : Level) (best first last : Option CodeFault) (o : Option Instr) → Some i ≡ o → Some l ≡ level_on_arrival (slice_index_or ts (p - f.start) None)
     → first ≡ earliest best (operand_faults c f p i (effect_of i)) → last ≡ earliest first (situation_faults c f (seen ns ts) p i (effect_of i) (situation_at ns l)) → last ≡ earliest best (faults_at c f (seen ns ts) p o (known_at f (seen ns ts) p))
 place_judged c f p ns ts i l best first last o stands kept one two =
     let t = seen ns ts in

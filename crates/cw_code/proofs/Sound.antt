@@ -11,7 +11,7 @@ use Rattle.cw_code.specs.declared.instruction.Func.{Func}
 use Rattle.cw_code.specs.declared.instruction.Code.{Code}
 use Rattle.cw_code.specs.Table.{Effect}
 use Rattle.cw_code.proofs.Parts.{same_parts_is}
-use Rattle.cw_code.specs.Rules.{Situation, Known, effect_of, pops, below, inside, is_target, is_tick, when, operand_faults, at_start, passed, onwards, jumps, never_passed, next_of, target_of, Places, offered, give, visit, pass, passes, begun, size_of, places, situation_of, known_at, is_border, is_torn, same, uneven_faults, faults_here, situation_faults, faults_at, place_faults, is_laid, head_faults, faults_from, faults}
+use Rattle.cw_code.specs.Rules.{Situation, Known, effect_of, pops, is_number_below, inside, is_target, is_tick, when, operand_faults, at_start, passed, onwards, jumps, never_passed, next_of, target_of, Places, offered, give, visit, pass, places_after_passes, begun, size_of, places, situation_of, known_at, is_border, is_torn, same, uneven_faults, faults_here, situation_faults, faults_at, place_faults, is_laid, head_faults, faults_from, faults}
 
 -- ## Tests
 
@@ -47,7 +47,7 @@ if_true false xs e h = absurd (no e)
 
 -- ## Numbers
 
-pub below_names : (z : ℤ) (count : ℕ) → below z count ≡ true → (n : ℕ) × (z ≡ pos n) × (n < count)
+pub below_names : (z : ℤ) (count : ℕ) → is_number_below z count ≡ true → (n : ℕ) × (z ≡ pos n) × (n < count)
 below_names (pos n) count e = (n, refl, ltb-true n count e)
 below_names (negsuc n) count e = absurd (no e)
   where
@@ -210,9 +210,9 @@ module _ (c : Code) where
       visit_keeps p (Some i) None t = refl
       visit_keeps p (Some i) (Some k) t = give_keeps f (target_of f i (effect_of i)) p _ (give f (next_of f p (effect_of i)) p _ t) ∙ give_keeps f (next_of f p (effect_of i)) p _ t
 
-  passes_keep : (f : Func) (size n : ℕ) (t : Places) → slice_index_or (passes c f size n t) 0 None ≡ slice_index_or t 0 None
+  passes_keep : (f : Func) (size n : ℕ) (t : Places) → slice_index_or (places_after_passes c f size n t) 0 None ≡ slice_index_or t 0 None
   passes_keep f size zero t = refl
-  passes_keep f size (suc n) t = pass_keeps f size (passes c f size n t) ∙ passes_keep f size n t
+  passes_keep f size (suc n) t = pass_keeps f size (places_after_passes c f size n t) ∙ passes_keep f size n t
 
   pub start_known : (f : Func) → f.start < f.end → known_at f (places c f) f.start ≡ Some at_start
   start_known f lt =

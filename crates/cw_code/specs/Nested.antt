@@ -37,9 +37,9 @@ known_by ns (Some a) = Some (record { from = a.from; situation = situation_at ns
 abbrev pub seen : Nested → List (Option Arrival) → Places
 seen ns ts = map (known_by ns) ts
 
-abbrev pub level_of : Option Arrival → Option Level
-level_of None = None
-level_of (Some a) = Some a.level
+abbrev pub level_on_arrival : Option Arrival → Option Level
+level_on_arrival None = None
+level_on_arrival (Some a) = Some a.level
 
 -- so many numbers are there, and a level has one of them
 abbrev pub IsBelow : ℕ → Option Level → Type 0
@@ -47,7 +47,7 @@ IsBelow count None = Unit {0}
 IsBelow count (Some l) = l.nesting < count
 
 abbrev pub AreBelow : ℕ → List (Option Arrival) → Type 0
-AreBelow count ts = (k : ℕ) → IsBelow count (level_of (slice_index_or ts k None))
+AreBelow count ts = (k : ℕ) → IsBelow count (level_on_arrival (slice_index_or ts k None))
 
 -- a place gets what another gives it, unless a smaller one gave
 abbrev pub offered_level : ℕ → Level → Option Arrival → Option Arrival
@@ -67,14 +67,14 @@ none_yet f (suc n) = Some (record { from = f.start; level = record { height = 0;
 -- ## The table in memory
 
 -- the nestings of rows, behind those that are there
-abbrev pub listed : Nested → List Nesting → Nested
-listed ns [] = ns
-listed ns (r ∷ rs) = listed (ns ++ (r.part ∷ parts_at ns r.outer) ∷ []) rs
+abbrev pub with_nestings : Nested → List Nesting → Nested
+with_nestings ns [] = ns
+with_nestings ns (r ∷ rs) = with_nestings (ns ++ (r.part ∷ parts_at ns r.outer) ∷ []) rs
 
 -- the first row is no part
 abbrev pub lists : List Nesting → Nested
 lists [] = []
-lists (r ∷ rs) = listed ([] ∷ []) rs
+lists (r ∷ rs) = with_nestings ([] ∷ []) rs
 
 -- the number of the nesting that has a part of this kind in this one, or 0
 abbrev pub child : Part → Nesting → ℕ

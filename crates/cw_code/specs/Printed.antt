@@ -17,14 +17,14 @@ abbrev pub instruction_text : Option Row → Instr → List ℕ
 instruction_text None i = []
 instruction_text (Some r) i = 32 ∷ (effect_name r.effect ++ operands r.operands i)
 
-abbrev pub line : ℕ → Instr → List ℕ
-line p i = decimal p ++ (instruction_text (row_at i.op) i ++ 10 ∷ [])
+abbrev pub instruction_line : ℕ → Instr → List ℕ
+instruction_line p i = decimal p ++ (instruction_text (row_at i.op) i ++ 10 ∷ [])
 
 -- the lines of instructions that stand from a place on
 abbrev pub lines_from : ℕ → List Instr → List ℕ
 lines_from p [] = []
-lines_from p (i ∷ is) = line p i ++ lines_from (p + 1) is
+lines_from p (i ∷ is) = instruction_line p i ++ lines_from (p + 1) is
 
 -- each operation is in the table
-abbrev pub AreKnown : List Instr → Type 0
-AreKnown is = All (λ i. IsSome (row_at i.op)) is
+abbrev pub HaveRows : List Instr → Type 0
+HaveRows is = All (λ i. IsSome (row_at i.op)) is

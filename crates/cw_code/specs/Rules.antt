@@ -20,10 +20,10 @@ effect_of i = effect_at i.op
 
 -- ## Numbers and targets
 
--- fewer than so many
-abbrev pub below : ℤ → ℕ → Bool
-below (pos n) count = nat_lt n count
-below (negsuc n) count = false
+-- a number below this
+abbrev pub is_number_below : ℤ → ℕ → Bool
+is_number_below (pos n) count = nat_lt n count
+is_number_below (negsuc n) count = false
 
 -- so many cells from this one on
 abbrev pub cells_below : ℤ → ℕ → ℕ → Bool
@@ -53,16 +53,16 @@ when false k p = []
 -- an operand that names nothing
 abbrev pub operand_faults : Code → Func → ℕ → Instr → Option Effect → List CodeFault
 operand_faults c f p i None = when true Underflow p
-operand_faults c f p i (Some local) = when (not (below i.a f.locals)) Underflow p
-operand_faults c f p i (Some set) = when (not (below i.a f.locals)) Underflow p
-operand_faults c f p i (Some load) = when (not (below i.a c.cells)) JumpOut p
-operand_faults c f p i (Some store) = when (not (below i.a c.cells)) JumpOut p
+operand_faults c f p i (Some local) = when (not (is_number_below i.a f.locals)) Underflow p
+operand_faults c f p i (Some set) = when (not (is_number_below i.a f.locals)) Underflow p
+operand_faults c f p i (Some load) = when (not (is_number_below i.a c.cells)) JumpOut p
+operand_faults c f p i (Some store) = when (not (is_number_below i.a c.cells)) JumpOut p
 operand_faults c f p i (Some load_at) = when (not (cells_below i.a i.b c.cells)) JumpOut p
 operand_faults c f p i (Some store_at) = when (not (cells_below i.a i.b c.cells)) JumpOut p
 operand_faults c f p i (Some jump) = when (not (is_target c f p i.a)) JumpOut p
 operand_faults c f p i (Some jump_zero) = when (not (is_target c f p i.a)) JumpOut p
 operand_faults c f p i (Some fork) = when (not (is_target c f p i.a)) JumpOut p
-operand_faults c f p i (Some call) = when (not (below i.a (length c.funcs))) JumpOut p
+operand_faults c f p i (Some call) = when (not (is_number_below i.a (length c.funcs))) JumpOut p
 operand_faults c f p i e = []
 
 -- ## What stands at a place
@@ -114,14 +114,14 @@ abbrev pub forks_in : List Part → ℕ
 forks_in = parts_in forked
 
 -- the innermost one of a kind is ended, wherever it stands
-abbrev pub without : Part → List Part → List Part
-without p [] = []
-without p (q ∷ qs) = if is_part p q then qs else q ∷ without p qs
+abbrev pub without_part : Part → List Part → List Part
+without_part p [] = []
+without_part p (q ∷ qs) = if is_part p q then qs else q ∷ without_part p qs
 
 abbrev pub parts_after : Option Effect → List Part → List Part
 parts_after (Some begin) ps = block ∷ ps
-parts_after (Some end) ps = without block ps
-parts_after (Some done) ps = without forked ps
+parts_after (Some end) ps = without_part block ps
+parts_after (Some done) ps = without_part forked ps
 parts_after e ps = ps
 
 abbrev pub passed : Code → Instr → Option Effect → Situation → Situation
@@ -185,10 +185,10 @@ pass c f (suc n) t =
     let before = pass c f n t in
     visit c f (f.start + n) (slice_get c.instrs (f.start + n)) (slice_index_or before n None) before
 
--- again and again
-abbrev pub passes : Code → Func → ℕ → ℕ → Places → Places
-passes c f size zero t = t
-passes c f size (suc n) t = pass c f size (passes c f size n t)
+-- after so many passes
+abbrev pub places_after_passes : Code → Func → ℕ → ℕ → Places → Places
+places_after_passes c f size zero t = t
+places_after_passes c f size (suc n) t = pass c f size (places_after_passes c f size n t)
 
 abbrev pub begun : Func → ℕ → Places
 begun f zero = []
@@ -200,7 +200,7 @@ size_of f = f.end - f.start
 -- What stands at the places of a function: each place gives what it leaves to the places where it leads, as often as
 -- there are places, and as often again for what smaller places gave late.
 abbrev pub places : Code → Func → Places
-places c f = passes c f (size_of f) (size_of f + size_of f) (begun f (size_of f))
+places c f = places_after_passes c f (size_of f) (size_of f + size_of f) (begun f (size_of f))
 
 abbrev pub situation_of : Option Known → Option Situation
 situation_of None = None

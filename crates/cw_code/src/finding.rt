@@ -1,6 +1,6 @@
 ghost use Rattle.std.specs.Prelude.{◌≡◌, ℕ, ◌+◌, ◌-◌, ◌<◌, ◌≤◌, Bool, List, Option, length, slice_get, slice_index_or, Some, None, IfOk, IfSome, ◌==◌, nat_lt, nat_le, ◌&&◌, [], ◌∷◌, replicate, ◌*◌, true, ◌++◌, if◌then◌else◌};
-ghost use Rattle.cw_code.specs.Nested.{Nested, IsGrown, parts_at, situation_at, level_at, level_of, seen, IsBelow, AreBelow, give_level, none_yet};
-ghost use Rattle.cw_code.specs.Rules.{earliest, effect_of, situation_faults, uneven_faults, same, known_at, faults_here, faults_at, place_faults, offered, visit, pass, passes, begun, places, size_of, head_faults, is_laid, faults_from, faults, inside};
+ghost use Rattle.cw_code.specs.Nested.{Nested, IsGrown, parts_at, situation_at, level_at, level_on_arrival, seen, IsBelow, AreBelow, give_level, none_yet};
+ghost use Rattle.cw_code.specs.Rules.{earliest, effect_of, situation_faults, uneven_faults, same, known_at, faults_here, faults_at, place_faults, offered, visit, pass, places_after_passes, begun, places, size_of, head_faults, is_laid, faults_from, faults, inside};
 
 use crate::effects::Effect;
 use crate::instruction::{Code, CodeFault, CodeKind, Func, Instr};
@@ -25,7 +25,7 @@ fn is_same(nestings: &Nestings, known: Option<Level>, level: &Level) -> bool
 /// What is kept of a place of the function.
 fn kept(func: &Func, places: &[Option<Arrival>], place: u32) -> Option<Level>
     requires { (func.now.start ≤ place) × (place < func.now.end) × (length places.now ≡ size_of func.now) }
-    ensures { result ≡ level_of (slice_index_or places.now (place - func.now.start) None) }
+    ensures { result ≡ level_on_arrival (slice_index_or places.now (place - func.now.start) None) }
 {
     match places[(place - func.start) as usize] {
         None => None,

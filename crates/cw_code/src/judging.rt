@@ -1,5 +1,5 @@
 ghost use Rattle.std.specs.Prelude.{◌≡◌, ◌+◌, ◌-◌, ◌<◌, ◌^◌, length, slice_get, Some, IfOk};
-ghost use Rattle.cw_code.specs.Rules.{earlier, earliest, when, kind_number, below, cells_below, inside, is_target, is_tick, operand_faults, effect_of, called, pops, pushes, parts_after, passed, onwards, never_passed, jumps, is_border, is_torn, next_of, target_of, if_inside, natural};
+ghost use Rattle.cw_code.specs.Rules.{earlier, earliest, when, kind_number, is_number_below, cells_below, inside, is_target, is_tick, operand_faults, effect_of, called, pops, pushes, parts_after, passed, onwards, never_passed, jumps, is_border, is_torn, next_of, target_of, if_inside, natural};
 ghost use Rattle.cw_code.specs.Nested.{parts_at, situation_at, IsGrown};
 ghost use Rattle.cw_code.specs.Table.{effect_at, taken, left_there};
 
@@ -46,7 +46,7 @@ pub fn note(best: Option<CodeFault>, broken: bool, kind: CodeKind, at: u32) -> O
 
 /// Whether a number names one of so many.
 pub fn is_below(a: i64, count: usize) -> bool
-    ensures { result ≡ below a count }
+    ensures { result ≡ is_number_below a count }
 {
     match u64::try_from(a) {
         Ok(n) => n < count as u64,

@@ -1,5 +1,5 @@
 ghost use Rattle.std.specs.Prelude.{◌≡◌, ℕ, ◌+◌, ◌<◌, [], ◌∷◌, ◌++◌, length, replicate, not, false, Some, None, ◌==◌, slice_get, slice_set, IfOk, OnErr, OnOk};
-ghost use Rattle.cw_code.specs.Rules.{is_part, parts_in, is_in_block, same_parts, without};
+ghost use Rattle.cw_code.specs.Rules.{is_part, parts_in, is_in_block, same_parts, without_part};
 ghost use Rattle.cw_code.specs.Nested.{parts_at, IsGrown, child, with_child};
 
 use crate::situation::Part;
@@ -210,7 +210,7 @@ impl Nestings {
         requires { number < length self.old }
         ensures grown { IsGrown self.old self.new }
         ensures made { IfOk result (λ n. n < length self.new) }
-        ensures parts { IfOk result (λ n. parts_at self.new n ≡ without part (parts_at self.old number)) }
+        ensures parts { IfOk result (λ n. parts_at self.new n ≡ without_part part (parts_at self.old number)) }
     {
         let mut passed: u32 = 0;
         let mut around = number;

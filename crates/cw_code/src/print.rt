@@ -1,6 +1,6 @@
 ghost use Rattle.std.specs.Prelude.{◌≡◌, ◌++◌, IfOk, IsSome, OnOk, string_bytes};
 ghost use Rattle.cw_code.specs.Table.{row_at, operator_name, effect_name};
-ghost use Rattle.cw_code.specs.Printed.{line, lines_from, AreKnown};
+ghost use Rattle.cw_code.specs.Printed.{instruction_line, lines_from, HaveRows};
 
 use crate::{Code, Effect, Instr, Operands, Operator, Row, table};
 use cw_base::OutOfMemory;
@@ -58,7 +58,7 @@ fn effect_name(effect: Effect) -> &'static str
 // The line of an instruction with its row.
 fn row_line(alloc: Global, place: usize, row: &Row, instr: &Instr) -> Result<String, OutOfMemory>
     requires { row_at instr.now.op ≡ Some row.now }
-    ensures { IfOk result (λ text. string_bytes text ≡ line place instr.now) }
+    ensures { IfOk result (λ text. string_bytes text ≡ instruction_line place instr.now) }
 {
     let name = effect_name(row.effect);
     match row.operands {
@@ -70,7 +70,7 @@ fn row_line(alloc: Global, place: usize, row: &Row, instr: &Instr) -> Result<Str
 
 fn push_line(text: &mut Vec<u8>, place: usize, instr: &Instr) -> Result<(), OutOfMemory>
     requires { IsSome (row_at instr.now.op) }
-    ensures { OnOk result (text.new.items ≡ text.old.items ++ line place instr.now) }
+    ensures { OnOk result (text.new.items ≡ text.old.items ++ instruction_line place instr.now) }
 {
     match table::row_at(instr.op) {
         None => unreachable!(),
@@ -84,7 +84,7 @@ fn push_line(text: &mut Vec<u8>, place: usize, instr: &Instr) -> Result<(), OutO
 
 /// The text of code: a line for each instruction.
 pub fn print_code(alloc: Global, code: &Code) -> Result<Vec<u8>, OutOfMemory>
-    requires { AreKnown code.now.instrs }
+    requires { HaveRows code.now.instrs }
     ensures { IfOk result (λ text. text.items ≡ lines_from 0 code.now.instrs) }
 {
     let mut text = Vec::new(alloc);

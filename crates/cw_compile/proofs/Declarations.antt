@@ -7,7 +7,7 @@ use Rattle.cw_strand.specs.Names.{find}
 use Rattle.cw_compile.specs.declared.locals.Hidden.{Hidden}
 use Rattle.cw_compile.specs.declared.naming.scope.Thing.{Thing}
 use Rattle.cw_compile.specs.NamingRules.Scopes.{thing_of}
-use Rattle.cw_compile.specs.Named.{named, before, with_name, list_of, Fits}
+use Rattle.cw_compile.specs.Named.{named, before_declared, with_name, list_of, Fits}
 
 same_name : (n m : List ℕ) → bytes_eq n m ≡ true → n ≡ m
 same_name n m e = (bytes_eq-Decides n m).0 e
@@ -25,15 +25,11 @@ IsSet x o f g = (n : List ℕ) → g n ≡ cond (bytes_eq n x) o (f n)
 module _ {V : Type 0} where
   -- ## Names that stand for the same
 
-  pub list_same : (hs : List (Hidden V)) (f g : Meanings V) → ((n : List ℕ) → f n ≡ g n) → list_of hs f ≡ list_of hs g
-  list_same [] f g same = refl
-  list_same (h ∷ hs) f g same = rw (same h.name.now, list_same hs (before h f) (before h g) (λ n. ap (cond (bytes_eq n h.name.now) h.value) (same n))) refl
-
   pub fits_same : (hs : List (Hidden V)) (f g : Meanings V) → ((n : List ℕ) → f n ≡ g n) → Fits hs f → Fits hs g
   fits_same [] f g same fits = λ n. sym (same n) ∙ fits n
   fits_same (h ∷ hs) f g same fits = (
     subst IsSome (same h.name.now) fits.0,
-    fits_same hs (before h f) (before h g) (λ n. ap (cond (bytes_eq n h.name.now) h.value) (same n)) fits.1,
+    fits_same hs (before_declared h f) (before_declared h g) (λ n. ap (cond (bytes_eq n h.name.now) h.value) (same n)) fits.1,
   )
 
   -- ## One more name
@@ -43,14 +39,14 @@ module _ {V : Type 0} where
   hidden_again false n x o p f e is = refl
 
   module _ (hs : List (Hidden V)) (h : Hidden V) (v : V) (f g : Meanings V) (hides : h.value ≡ f h.name.now) (sets : IsSet h.name.now (Some v) f g) where
-    before_is : (n : List ℕ) → before h g n ≡ f n
+    before_is : (n : List ℕ) → before_declared h g n ≡ f n
     before_is n = rw (sets n) (hidden_again (bytes_eq n h.name.now) n h.name.now h.value (Some v) f refl hides)
 
     new_is : g h.name.now ≡ Some v
     new_is = sets h.name.now ∙ rw (own_name h.name.now) refl
 
     pub fits_more : Fits hs f → Fits (h ∷ hs) g
-    fits_more fits = (rw new_is refl, fits_same hs f (before h g) (λ n. sym (before_is n)) fits)
+    fits_more fits = (rw new_is refl, fits_same hs f (before_declared h g) (λ n. sym (before_is n)) fits)
 
   -- ## Fewer names
 
@@ -67,7 +63,7 @@ module _ {V : Type 0} where
 
   pub length-list_of : (hs : List (Hidden V)) (f : Meanings V) → Fits hs f → length (list_of hs f) ≡ length hs
   length-list_of [] f fits = refl
-  length-list_of (h ∷ hs) f fits = one_longer h.name.now (f h.name.now) (list_of hs (before h f)) (length hs) fits.0 (length-list_of hs (before h f) fits.1)
+  length-list_of (h ∷ hs) f fits = one_longer h.name.now (f h.name.now) (list_of hs (before_declared h f)) (length hs) fits.0 (length-list_of hs (before_declared h f) fits.1)
 
   -- the newest stands for what it stands for
   newest_found : (b : Bool) (n x : List ℕ) (o p : Option V) (xs : List (List ℕ × V)) (f : Meanings V) → bytes_eq n x ≡ b → IsSome o → f x ≡ o → named xs n ≡ cond b p (f n) → named (with_name x o xs) n ≡ f n
@@ -77,7 +73,7 @@ module _ {V : Type 0} where
 
   pub named-list_of : (hs : List (Hidden V)) (f : Meanings V) → Fits hs f → (n : List ℕ) → named (list_of hs f) n ≡ f n
   named-list_of [] f fits n = sym (fits n)
-  named-list_of (h ∷ hs) f fits n = newest_found (bytes_eq n h.name.now) n h.name.now (f h.name.now) h.value (list_of hs (before h f)) f refl fits.0 refl (named-list_of hs (before h f) fits.1 n)
+  named-list_of (h ∷ hs) f fits n = newest_found (bytes_eq n h.name.now) n h.name.now (f h.name.now) h.value (list_of hs (before_declared h f)) f refl fits.0 refl (named-list_of hs (before_declared h f) fits.1 n)
 
 -- ## The same in the words of the naming rules
 

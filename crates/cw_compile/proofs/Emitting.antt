@@ -7,13 +7,13 @@ use Rattle.cw_code.specs.declared.instruction.Instr.{Instr}
 use Rattle.cw_strand.proofs.Numbering.{count_behind}
 use Rattle.cw_strand.specs.Compilation.{Slots, slots_after, term_code, statement_code, block_code, block_length, jump, jump_zero, tick, begin, end, fork, wait, done}
 use Rattle.cw_compile.specs.declared.emitter.Emitter.{Emitter}
-use Rattle.cw_compile.specs.Emitted.{peak, with_code, with_statement, with_block, IsLeft}
+use Rattle.cw_compile.specs.Emitted.{peak, with_code, with_statement_code, with_block, IsLeft}
 
 two_more : (xs : List Instr) (x y : Instr) → length ((xs ++ x ∷ []) ++ y ∷ []) ≡ length xs + 1 + 1
 two_more xs x y = omega (arith, length-append xs (x ∷ []), length-append (xs ++ x ∷ []) (y ∷ []))
 
 -- an atomic block, piece by piece
-pub atomic_emitted : (e e1 e2 e3 e4 e5 : Emitter) (b : Block) (q last : ℕ) → e1 ≡ with_code e (tick ∷ []) → e2 ≡ with_code e1 (begin ∷ []) → last ≡ length e2.code + block_length b + 1 → e3 ≡ with_block e2 last b → e4 ≡ with_code e3 (wait ∷ []) → e5 ≡ with_code e4 (end ∷ []) → e5 ≡ with_statement e q (atomic b)
+pub atomic_emitted : (e e1 e2 e3 e4 e5 : Emitter) (b : Block) (q last : ℕ) → e1 ≡ with_code e (tick ∷ []) → e2 ≡ with_code e1 (begin ∷ []) → last ≡ length e2.code + block_length b + 1 → e3 ≡ with_block e2 last b → e4 ≡ with_code e3 (wait ∷ []) → e5 ≡ with_code e4 (end ∷ []) → e5 ≡ with_statement_code e q (atomic b)
 atomic_emitted e e1 e2 e3 e4 e5 b q last i1 i2 k i3 i4 i5 =
     let before : List Instr = (e.code ++ tick ∷ []) ++ begin ∷ [] in
     let body : ℕ → List Instr = λ n. block_code e.elements e.functions e.slots n (n + block_length b + 1) b in
@@ -22,7 +22,7 @@ atomic_emitted e e1 e2 e3 e4 e5 b q last i1 i2 k i3 i4 i5 =
 
 -- a spawned block, piece by piece, where the target of the fork was written last
 module _ (e e1 e2 e3 e4 e5 : Emitter) (b : Block) (n q : ℕ) where
-  pub spawn_emitted : e1 ≡ with_code e (tick ∷ []) → n ≡ length e1.code → e2 ≡ with_code e1 (fork 0 ∷ []) → e3 ≡ with_block e2 q b → e4 ≡ with_code e3 (wait ∷ []) → e5 ≡ with_code e4 (done ∷ []) → record e5 { code = slice_set e5.code n (fork (length e5.code)) } ≡ with_statement e q (spawn b)
+  pub spawn_emitted : e1 ≡ with_code e (tick ∷ []) → n ≡ length e1.code → e2 ≡ with_code e1 (fork 0 ∷ []) → e3 ≡ with_block e2 q b → e4 ≡ with_code e3 (wait ∷ []) → e5 ≡ with_code e4 (done ∷ []) → record e5 { code = slice_set e5.code n (fork (length e5.code)) } ≡ with_statement_code e q (spawn b)
   spawn_emitted i1 m i2 i3 i4 i5 =
       let front : List Instr = e.code ++ tick ∷ [] in
       let before : List Instr = front ++ fork 0 ∷ [] in
@@ -154,17 +154,17 @@ module _ (e e1 e2 : Emitter) (t : Term) (n q : ℕ) (i1 : e1 ≡ with_code e (ti
   number b = omega (arith, last, ap (λ x. length x.code) is_tested, tested_long e.code test (code_of b))
 
   pub choice_emitted : (e3 e4 e5 : Emitter) (a b : Block) (m : ℕ) → e3 ≡ with_block e2 q a → e4 ≡ record e3 { code = slice_set (e3.code ++ jump 0 ∷ []) n (jump_zero (length e3.code + 1)) } → m ≡ length e3.code → e5 ≡ with_block e4 q b
-      → record e5 { code = slice_set e5.code m (jump (length e5.code)) } ≡ with_statement e q (choose t a b)
+      → record e5 { code = slice_set e5.code m (jump (length e5.code)) } ≡ with_statement_code e q (choose t a b)
   choice_emitted e3 e4 e5 a b m i3 i4 k i5 =
       let c = e.code in
       let s3 : e3 ≡ with_block ticked q a = i3 ∙ ap (λ x. with_block x q a) is_tested in
       let past_is : m ≡ past c test (code_of a) = k ∙ ap (λ x. length x.code) s3 ∙ with_body_long c test (code_of a) in
       let whole = choice_written c test (code_of a) (code_of b) in
       let high : max (max e.most (peak (length e.slots) a)) (peak (length e.slots) b) ≡ max e.most (max (peak (length e.slots) a) (peak (length e.slots) b)) = omega arith in
-      rw (i5, i4, s3, number a, past_is) (ap (λ l. record e { code = l; most = max (max e.most (peak (length e.slots) a)) (peak (length e.slots) b) }) whole ∙ ap (λ m. record (with_statement e q (choose t a b)) { most = m }) high)
+      rw (i5, i4, s3, number a, past_is) (ap (λ l. record e { code = l; most = max (max e.most (peak (length e.slots) a)) (peak (length e.slots) b) }) whole ∙ ap (λ m. record (with_statement_code e q (choose t a b)) { most = m }) high)
 
   pub loop_emitted : (e3 e4 : Emitter) (b : Block) (p : ℕ) → e3 ≡ with_block e2 q b → e4 ≡ with_code e3 (jump p ∷ []) → p ≡ length e.code
-      → record e4 { code = slice_set e4.code n (jump_zero (length e4.code)) } ≡ with_statement e q (repeat t b)
+      → record e4 { code = slice_set e4.code n (jump_zero (length e4.code)) } ≡ with_statement_code e q (repeat t b)
   loop_emitted e3 e4 b p i3 i4 start =
       let whole = loop_written e.code test (code_of b) in
       rw (i4, i3, is_tested, number b, start) (ap (λ l. record e { code = l; most = max e.most (peak (length e.slots) b) }) whole)
@@ -174,7 +174,7 @@ grown (declare w e) g outer inner is = (w.name ∷ inner, ap (λ h. w.name ∷ h
 grown _ g outer inner is = (inner, is)
 
 -- one statement more of a block
-pub emit_next : (q : ℕ) (body : Block) (start : Emitter) (s : Statement) (b : Block) (e : Emitter) → IsLeft q body start (first s b) e → IsLeft q body start b (with_statement e q s)
+pub emit_next : (q : ℕ) (body : Block) (start : Emitter) (s : Statement) (b : Block) (e : Emitter) → IsLeft q body start (first s b) e → IsLeft q body start b (with_statement_code e q s)
 emit_next q body start s b e is =
     let here : List Instr = statement_code e.elements e.functions e.slots (length e.code) q s in
     record {

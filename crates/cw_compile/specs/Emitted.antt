@@ -27,8 +27,8 @@ abbrev pub with_terms : Emitter → Terms → Emitter
 with_terms e es = with_code e (terms_code e.elements e.functions e.slots es)
 
 -- a statement, where the innermost atomic block of its function has its `end` at the place `ending`
-abbrev pub with_statement : Emitter → (ending : ℕ) → Statement → Emitter
-with_statement e q s = record e {
+abbrev pub with_statement_code : Emitter → (ending : ℕ) → Statement → Emitter
+with_statement_code e q s = record e {
   code = e.code ++ statement_code e.elements e.functions e.slots (length e.code) q s;
   slots = slots_after s e.slots;
   most = max e.most (peak_in (length e.slots) s);

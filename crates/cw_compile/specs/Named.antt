@@ -17,8 +17,8 @@ named [] n = None
 named (x ∷ xs) n = if bytes_eq n x.0 then Some x.1 else named xs n
 
 -- what each name stood for before one was declared
-abbrev pub before : {V : Type 0} → Hidden V → (List ℕ → Option V) → List ℕ → Option V
-before h f n = if bytes_eq n h.name.now then h.value else f n
+abbrev pub before_declared : {V : Type 0} → Hidden V → (List ℕ → Option V) → List ℕ → Option V
+before_declared h f n = if bytes_eq n h.name.now then h.value else f n
 
 -- one more name, where it stands for something
 abbrev pub with_name : {V : Type 0} → List ℕ → Option V → List (List ℕ × V) → List (List ℕ × V)
@@ -28,9 +28,9 @@ with_name n (Some v) xs = (n, v) ∷ xs
 -- the list of what was declared, where each name stands for that now
 abbrev pub list_of : {V : Type 0} → List (Hidden V) → (List ℕ → Option V) → List (List ℕ × V)
 list_of [] f = []
-list_of (h ∷ hs) f = with_name h.name.now (f h.name.now) (list_of hs (before h f))
+list_of (h ∷ hs) f = with_name h.name.now (f h.name.now) (list_of hs (before_declared h f))
 
 -- Each name that was declared stands for something, and no other one does.
 abbrev pub Fits : {V : Type 0} → List (Hidden V) → (List ℕ → Option V) → Type 0
 Fits [] f = (n : List ℕ) → f n ≡ None
-Fits (h ∷ hs) f = IsSome (f h.name.now) × Fits hs (before h f)
+Fits (h ∷ hs) f = IsSome (f h.name.now) × Fits hs (before_declared h f)

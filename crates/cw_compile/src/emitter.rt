@@ -29,7 +29,7 @@ pub(crate) struct Emitter<'a> {
 }
 
 impl<'a> Emitter<'a> {
-    ghost use Rattle.cw_compile.specs.Emitted.{with_code, with_statement, with_block};
+    ghost use Rattle.cw_compile.specs.Emitted.{with_code, with_statement_code, with_block};
 
     /// What begins with no code, over these cells and functions.
     pub(crate) fn new(
@@ -241,7 +241,7 @@ impl<'a> Emitter<'a> {
     /// visible afterwards.
     #[cycle(walk)]
     fn statement(&mut self, statement: &'a Stmt, ending: u32) -> Result<(), OutOfMemory>
-        ensures { OnOk result (self.new ≡ with_statement self.old ending (statement_of statement.now)) }
+        ensures { OnOk result (self.new ≡ with_statement_code self.old ending (statement_of statement.now)) }
     {
         let start = self.code.place();
         self.emit(plain(TICK))?;

@@ -150,8 +150,8 @@ pub record IsBarrier (k : CoreState) (s c : ℕ) (b : Barrier) : Type 0 where
 -- ## New rows
 
 -- the row with this number is changed
-abbrev pub changed : (Row → Row) → ℕ → List Row → List Row
-changed f n rows =
+abbrev pub with_row_changed : (Row → Row) → ℕ → List Row → List Row
+with_row_changed f n rows =
     with_row (slice_get rows n) where
       with_row : Option Row → List Row
       with_row None = rows
@@ -261,13 +261,13 @@ abbrev pub with_wait : Row → Row
 with_wait r = record r { now = record r.now { waits = true } }
 
 -- a number but this one
-abbrev pub without : ℕ → Option ℕ → Option ℕ
-without b None = None
-without b (Some v) = if v == b then None else Some v
+abbrev pub without_number : ℕ → Option ℕ → Option ℕ
+without_number b None = None
+without_number b (Some v) = if v == b then None else Some v
 
 -- a strand goes on behind a block that was rolled back
 abbrev pub with_rolled : (p b : ℕ) → Row → Row
-with_rolled p b r = record r { now = record r.now { place = p; victim = without b r.now.victim } }
+with_rolled p b r = record r { now = record r.now { place = p; victim = without_number b r.now.victim } }
 
 -- the children end with a block that was rolled back, at its attempt of this number
 abbrev pub aborted_tail : ℕ → Tail

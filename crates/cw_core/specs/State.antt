@@ -7,7 +7,7 @@ use Rattle.cw_tree.specs.declared.conflict.Conflict.{Conflict}
 use Rattle.cw_tree.specs.Nodes.{parent_of}
 use Rattle.cw_tree.specs.Walks.{has}
 use Rattle.cw_tree.specs.Series.{strand_of, children}
-use Rattle.cw_tree.specs.Refusals.{refused}
+use Rattle.cw_tree.specs.Refusals.{refused_node}
 use Rattle.cw_trace.specs.Columns.{ColumnTable, used, gap, first_tier}
 use Rattle.cw_trace.specs.Stands.{column, fork_column}
 use Rattle.cw_open.specs.Machine.{OpenMachine, has_finished}
@@ -61,4 +61,4 @@ last_refusal k = find (λ c. c.attempt == k.budget) k.machine.conflicts
 
 -- the strand that has spent its budget: that of the block, or of the access
 abbrev pub spent : CoreState → Option ℕ
-spent k = option_map (λ c. strand_of k.machine.tree (refused k.machine.tree c)) (last_refusal k)
+spent k = option_map (λ c. strand_of k.machine.tree (refused_node k.machine.tree c)) (last_refusal k)

@@ -103,7 +103,7 @@ pub(crate) fn put_leaf(
     requires strand { strand < vec_len table.old }
     requires place { place < vec_len table.old }
     requires room { vec_len table.old < vec_capacity table.old }
-    ensures { table.new.items ≡ rows.changed (rows.with_place next) strand (rows.changed (rows.with_tail tail) place table.old.items ++ rows.leaf_row strand attempt ∷ []) }
+    ensures { table.new.items ≡ rows.with_row_changed (rows.with_place next) strand (rows.with_row_changed (rows.with_tail tail) place table.old.items ++ rows.leaf_row strand attempt ∷ []) }
 {
     let parent = &mut table[place as usize];
     parent.tail = tail;
@@ -137,7 +137,7 @@ pub(crate) fn put_tried(
     requires strand { strand < vec_len table.old }
     requires place { place < vec_len table.old }
     requires room { vec_len table.old < vec_capacity table.old }
-    ensures { table.new.items ≡ rows.changed (rows.with_victim victim) strand (rows.changed (rows.with_tail tail) place table.old.items ++ rows.leaf_row strand 0 ∷ []) }
+    ensures { table.new.items ≡ rows.with_row_changed (rows.with_victim victim) strand (rows.with_row_changed (rows.with_tail tail) place table.old.items ++ rows.leaf_row strand 0 ∷ []) }
 {
     let parent = &mut table[place as usize];
     parent.tail = tail;
@@ -149,7 +149,7 @@ pub(crate) fn put_tried(
 /// A strand has finished.
 pub(crate) fn finish_row(table: &mut Vec<Row>, strand: u32, dead: bool)
     requires { strand < vec_len table.old }
-    ensures { table.new.items ≡ rows.changed (rows.with_finished dead) strand table.old.items }
+    ensures { table.new.items ≡ rows.with_row_changed (rows.with_finished dead) strand table.old.items }
 {
     let own = &mut table[strand as usize];
     own.now.finished = true;
@@ -159,7 +159,7 @@ pub(crate) fn finish_row(table: &mut Vec<Row>, strand: u32, dead: bool)
 /// A fork was split.
 pub(crate) fn split_row(table: &mut Vec<Row>, fork: u32)
     requires { fork < vec_len table.old }
-    ensures { table.new.items ≡ rows.changed rows.with_split fork table.old.items }
+    ensures { table.new.items ≡ rows.with_row_changed rows.with_split fork table.old.items }
 {
     let row = &mut table[fork as usize];
     row.now.split = true;
@@ -180,7 +180,7 @@ pub(crate) fn least(a: Option<u32>, b: Option<u32>) -> Option<u32>
 pub(crate) fn join_rows(table: &mut Vec<Row>, fork: u32, strand: u32, victim: Option<u32>)
     requires fork { fork < vec_len table.old }
     requires strand { strand < vec_len table.old }
-    ensures { table.new.items ≡ rows.changed rows.with_joined fork (rows.changed (rows.with_back victim) strand table.old.items) }
+    ensures { table.new.items ≡ rows.with_row_changed rows.with_joined fork (rows.with_row_changed (rows.with_back victim) strand table.old.items) }
 {
     let own = &mut table[strand as usize];
     own.now.waits = false;
@@ -193,7 +193,7 @@ pub(crate) fn join_rows(table: &mut Vec<Row>, fork: u32, strand: u32, victim: Op
 pub(crate) fn close_row(table: &mut Vec<Row>, strand: u32, parent: u32, tail: Tail)
     requires strand { strand < vec_len table.old }
     requires parent { parent < vec_len table.old }
-    ensures { table.new.items ≡ rows.changed (rows.with_place parent) strand (rows.changed (rows.with_tail tail) parent table.old.items) }
+    ensures { table.new.items ≡ rows.with_row_changed (rows.with_place parent) strand (rows.with_row_changed (rows.with_tail tail) parent table.old.items) }
 {
     let row = &mut table[parent as usize];
     row.tail = tail;
@@ -250,7 +250,7 @@ pub(crate) fn put_fork(
     requires place { place < vec_len table.old }
     requires room { vec_len table.old + 3 ≤ vec_capacity table.old }
     requires few { fork + 3 < 2 ^ 32 }
-    ensures { table.new.items ≡ rows.changed rows.with_wait strand (rows.changed (rows.with_tail rows.plain_tail) place table.old.items ++ rows.fork_rows strand columns.0 columns.1 fork has_columns) }
+    ensures { table.new.items ≡ rows.with_row_changed rows.with_wait strand (rows.with_row_changed (rows.with_tail rows.plain_tail) place table.old.items ++ rows.fork_rows strand columns.0 columns.1 fork has_columns) }
 {
     let parent = &mut table[place as usize];
     parent.tail = PLAIN;
@@ -261,7 +261,7 @@ pub(crate) fn put_fork(
 
 /// A number but this one.
 fn without(block: u32, number: Option<u32>) -> Option<u32>
-    ensures { result ≡ rows.without block number }
+    ensures { result ≡ rows.without_number block number }
 {
     match number {
         Some(other) if other != block => Some(other),
@@ -274,7 +274,7 @@ fn without(block: u32, number: Option<u32>) -> Option<u32>
 pub(crate) fn roll_row(table: &mut Vec<Row>, strand: u32, block: u32, parent: u32, attempt: u32)
     requires strand { strand < vec_len table.old }
     requires parent { parent < vec_len table.old }
-    ensures { table.new.items ≡ rows.changed (rows.with_rolled parent block) strand (rows.changed (rows.with_tail (rows.aborted_tail attempt)) parent table.old.items) }
+    ensures { table.new.items ≡ rows.with_row_changed (rows.with_rolled parent block) strand (rows.with_row_changed (rows.with_tail (rows.aborted_tail attempt)) parent table.old.items) }
 {
     let row = &mut table[parent as usize];
     row.tail = Tail {

@@ -62,15 +62,15 @@ AreApart (l ∷ ls) = HasNone l.column ls × AreApart ls
 
 -- ## Where a run was stopped
 
-abbrev pub last_of : List Conflict → Option Conflict
-last_of [] = None
-last_of (c ∷ []) = Some c
-last_of (c ∷ d ∷ cs) = last_of (d ∷ cs)
+abbrev pub last_of_conflicts : List Conflict → Option Conflict
+last_of_conflicts [] = None
+last_of_conflicts (c ∷ []) = Some c
+last_of_conflicts (c ∷ d ∷ cs) = last_of_conflicts (d ∷ cs)
 
 -- the last conflict of the log with this column
 abbrev pub last_conflict : List Log → (column : ℕ) → Option Conflict
 last_conflict [] c = None
-last_conflict (l ∷ ls) c = if l.column == c then last_of l.conflicts else last_conflict ls c
+last_conflict (l ∷ ls) c = if l.column == c then last_of_conflicts l.conflicts else last_conflict ls c
 
 -- the strand that spent its budget by this conflict: the one that began its victim, or where it has none strand x, which was refused
 abbrev pub spender : List Node → Option Conflict → (x : ℕ) → ℕ
@@ -103,8 +103,8 @@ module _ (kind : FaultKind) (c x : ℕ) where
 -- ## What threads owe
 
 -- a log but for its conflicts
-abbrev pub bare : Log → Log
-bare l = record l { conflicts = [] }
+abbrev pub bare_log : Log → Log
+bare_log l = record l { conflicts = [] }
 
 module _ {A : Type 0} (s : Strands A) where
   -- So a run of main came to its end: by itself, or stopped. Of want of memory nothing is said.
@@ -119,7 +119,7 @@ module _ {A : Type 0} (s : Strands A) where
   -- These logs are what the strands of a program did, from main on, each once and no others.
   pub record AreWorked (all : List Log) (stop : Option Stop) : Type 0 where
     pub course : Course
-    pub written : map bare all ≡ logs_of course 0 0 0
+    pub written : map bare_log all ≡ logs_of course 0 0 0
     pub ends : Ends stop course
 
 -- ## What a board owes

@@ -20,28 +20,28 @@ pub data Trail (A : Type 0) : Type 0 where
 
 module _ {A : Type 0} (s : Strands A) where
   -- where the log began in state a: the state with which the innermost thing that is open began
-  abbrev pub entry : (a : A) → Trail A → A
-  entry a opens = a
-  entry a (in_block t cs b stamp) = s.answer b Nothing
-  entry a (in_left t cs b column stamp) = s.left b
-  entry a (in_right t cs b stamp ls l) = s.right b
+  abbrev pub state_at_entry : (a : A) → Trail A → A
+  state_at_entry a opens = a
+  state_at_entry a (in_block t cs b stamp) = s.answer b Nothing
+  state_at_entry a (in_left t cs b column stamp) = s.left b
+  state_at_entry a (in_right t cs b stamp ls l) = s.right b
 
   -- all that is behind is what strands of the program did
   abbrev pub Leads : (a : A) → Trail A → Type 0
   Leads a opens = Unit {0}
-  Leads a (in_block t cs b stamp) = Leads a t × Goes s (entry a t) cs b × (s.want b ≡ want.Begin)
-  Leads a (in_left t cs b column stamp) = Leads a t × Goes s (entry a t) cs b × (s.want b ≡ want.Fork)
-  Leads a (in_right t cs b stamp ls l) = Leads a t × Goes s (entry a t) cs b × (s.want b ≡ want.Fork) × Goes s (s.left b) ls l × IsTrue (is_over (s.want l))
+  Leads a (in_block t cs b stamp) = Leads a t × Goes s (state_at_entry a t) cs b × (s.want b ≡ want.Begin)
+  Leads a (in_left t cs b column stamp) = Leads a t × Goes s (state_at_entry a t) cs b × (s.want b ≡ want.Fork)
+  Leads a (in_right t cs b stamp ls l) = Leads a t × Goes s (state_at_entry a t) cs b × (s.want b ≡ want.Fork) × Goes s (s.left b) ls l × IsTrue (is_over (s.want l))
 
   -- the strand of a log that began in state a stands in this one now, behind this course of the innermost thing that is open
   pub record Stands (a : A) (t : Trail A) (cs : Course) (now : A) : Type 0 where
     pub leads : Leads a t
-    pub goes : Goes s (entry a t) cs now
+    pub goes : Goes s (state_at_entry a t) cs now
 
   -- or it was stopped in it
   pub record Stopped (a : A) (t : Trail A) (cs : Course) : Type 0 where
     pub leads : Leads a t
-    pub stops : Stops s (entry a t) cs
+    pub stops : Stops s (state_at_entry a t) cs
 
 -- ## Written down
 
@@ -55,8 +55,8 @@ abbrev pub behind : Page → Course → List Node
 behind p cs = p.nodes ++ laid cs (length p.nodes) p.place
 
 -- with these nodes it goes on in the strand or block with this number
-abbrev pub goes_in : List Node → ℕ → Page
-goes_in nodes place = record { nodes = nodes; place = place }
+abbrev pub page_in : List Node → ℕ → Page
+page_in nodes place = record { nodes = nodes; place = place }
 
 -- the strands of a fork with number n that come with it: both where the right one has no log of its own
 abbrev pub strands_with : Option ℕ → (n : ℕ) → List Node
@@ -64,15 +64,15 @@ strands_with None n = fresh_node n Strand 0 ∷ fresh_node n Strand 0 ∷ []
 strands_with (Some column) n = fresh_node n Strand 0 ∷ []
 
 -- a fork behind a course, and its left strand, in which it goes on
-abbrev pub forked : Page → Course → (column : Option ℕ) → (stamp : ℕ) → Page
-forked p cs column stamp = let n = length (behind p cs) in goes_in (behind p cs ++ fresh_node p.place Fork stamp ∷ strands_with column n) (n + 1)
+abbrev pub forked_page : Page → Course → (column : Option ℕ) → (stamp : ℕ) → Page
+forked_page p cs column stamp = let n = length (behind p cs) in page_in (behind p cs ++ fresh_node p.place Fork stamp ∷ strands_with column n) (n + 1)
 
 module _ {A : Type 0} where
   abbrev pub page : Trail A → Page
-  page opens = goes_in (fresh_node 0 Strand 0 ∷ []) 0
-  page (in_block t cs b stamp) = let n = length (behind (page t) cs) in goes_in (behind (page t) cs ++ fresh_node (page t).place Block stamp ∷ []) n
-  page (in_left t cs b column stamp) = forked (page t) cs column stamp
-  page (in_right t cs b stamp ls l) = goes_in (behind (forked (page t) cs None stamp) ls) (length (behind (page t) cs) + 2)
+  page opens = page_in (fresh_node 0 Strand 0 ∷ []) 0
+  page (in_block t cs b stamp) = let n = length (behind (page t) cs) in page_in (behind (page t) cs ++ fresh_node (page t).place Block stamp ∷ []) n
+  page (in_left t cs b column stamp) = forked_page (page t) cs column stamp
+  page (in_right t cs b stamp ls l) = page_in (behind (forked_page (page t) cs None stamp) ls) (length (behind (page t) cs) + 2)
 
   abbrev pub place_of : Trail A → ℕ
   place_of t = (page t).place

@@ -3,7 +3,7 @@ use Rattle.std.proofs.Common.{◌≡◌, ℕ, false, List, [], ◌∷◌, ◌++�
 use Rattle.std.specs.List.{range_with_len}
 use Rattle.cw_text.specs.Cancels.{block_has_cancel, has_cancel}
 use Rattle.cw_text.specs.Syntax.{Declaration, Statement, sync}
-use Rattle.cw_gen.specs.Load.{Transfer, block, group, group_count, group_function, load_tree, main_function, spawned_group, spawned_transfer, summed, transfers}
+use Rattle.cw_gen.specs.Load.{Transfer, block, group, group_count, group_function, load_tree, load_main, spawned_group, spawned_transfer, summed, transfers}
 
 calls_have_none : (ts : List Transfer) → block_has_cancel (block (map spawned_transfer ts)) ≡ false
 calls_have_none [] = refl
@@ -21,4 +21,4 @@ module _ (n : ℕ) where
   pub load_has_none : has_cancel (load_tree n) ≡ false
   load_has_none =
       let ks = range_with_len 0 (group_count n) in
-      rw (groups_have_none ks (main_function (group_count n) ∷ []), spawns_have_none ks (sync ∷ summed)) refl
+      rw (groups_have_none ks (load_main (group_count n) ∷ []), spawns_have_none ks (sync ∷ summed)) refl

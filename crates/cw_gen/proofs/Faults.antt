@@ -11,7 +11,7 @@ use Rattle.std.proofs.Math.Numerals.{lt_of_le_of_ne}
 use Rattle.cw_text.specs.Syntax.{Declaration, Statement, sync}
 use Rattle.cw_strand.specs.declared.naming.Around.TheVariants.{Neither}
 use Rattle.cw_strand.specs.Names.{an_array, a_function, Scope, find, Fault, ◌then◌, declared_new, fault_of_call, in_statement, in_block, in_items, in_functions, in_params, globals, main_from, naming_fault, without_main}
-use Rattle.cw_gen.specs.Load.{Transfer, transfers, group, group_count, group_name, group_function, transfer_function, spawned_transfer, spawned_group, main_function, summed, block, word, load_tree}
+use Rattle.cw_gen.specs.Load.{Transfer, transfers, group, group_count, group_name, group_function, transfer_function, spawned_transfer, spawned_group, load_main, summed, block, word, load_tree}
 
 both : (f g : Fault) → f ≡ None → g ≡ None → (f then g) ≡ None
 both f g e h = ap (λ x. x then g) e ∙ h
@@ -67,7 +67,7 @@ module _ (n : ℕ) where
   -- ## Items
 
   items_from : (a len : ℕ) (g : Scope) (count : ℕ) → a + len < 2 ^ 64 → ((k : ℕ) → a ≤ k → k < a + len → find (group_name k) g ≡ None) → find (codes "main") g ≡ None
-      → in_items g 64 (functions a len ++ main_function count ∷ []) ≡ None
+      → in_items g 64 (functions a len ++ load_main count ∷ []) ≡ None
   items_from a zero g count low new main = both (declared_new (find (codes "main") g) 1) None (ap (λ t. declared_new t 1) main) refl
   items_from a (suc len) g count low new main =
       both (declared_new (find (group_name a) g) 1) _ (ap (λ t. declared_new t 1) (new a (omega arith) (omega arith)))
@@ -81,16 +81,16 @@ module _ (n : ℕ) where
   -- ## Functions
 
   abbrev rest : Scope
-  rest = groups 0 (group_count n) ++ globals (main_function (group_count n) ∷ [])
+  rest = groups 0 (group_count n) ++ globals (load_main (group_count n) ∷ [])
 
   abbrev scope : Scope
   scope = (codes "a", an_array) ∷ (codes "t", a_function 3) ∷ rest
 
   all_declared : globals (load_tree n) ≡ scope
-  all_declared = ap (λ g. (codes "a", an_array) ∷ (codes "t", a_function 3) ∷ g) (declares 0 (group_count n) (main_function (group_count n) ∷ []))
+  all_declared = ap (λ g. (codes "a", an_array) ∷ (codes "t", a_function 3) ∷ g) (declares 0 (group_count n) (load_main (group_count n) ∷ []))
 
-  hidden : (text : List ℕ) → ((k : ℕ) → bytes_eq text (group_name k) ≡ false) → find text (globals (main_function (group_count n) ∷ [])) ≡ None → find text rest ≡ None
-  hidden text other e = find_behind text other 0 (group_count n) (globals (main_function (group_count n) ∷ [])) ∙ e
+  hidden : (text : List ℕ) → ((k : ℕ) → bytes_eq text (group_name k) ≡ false) → find text (globals (load_main (group_count n) ∷ [])) ≡ None → find text rest ≡ None
+  hidden text other e = find_behind text other 0 (group_count n) (globals (load_main (group_count n) ∷ [])) ∙ e
 
   -- that of a transfer
   transfer_has_none : (ds : List Declaration) → in_functions scope ds ≡ None → in_functions scope (transfer_function ∷ ds) ≡ None
@@ -115,7 +115,7 @@ module _ (n : ℕ) where
   spawns_are_right a zero ss low e = e
   spawns_are_right a (suc len) ss low e =
       both (in_statement scope Neither (spawned_group a)) _
-      (ap (λ t. ((fault_of_call t 0 1 then None) then None)) (find_group a 0 (group_count n) (globals (main_function (group_count n) ∷ [])) (omega arith) (omega (arith, low))))
+      (ap (λ t. ((fault_of_call t 0 1 then None) then None)) (find_group a 0 (group_count n) (globals (load_main (group_count n) ∷ [])) (omega arith) (omega (arith, low))))
       (spawns_are_right (a + 1) len ss (omega (arith, low)) e)
 
   sum_is_right : in_block scope Neither (block (sync ∷ summed)) ≡ None
@@ -123,17 +123,17 @@ module _ (n : ℕ) where
       both (declared_new (find (codes "k") rest) 1 then None) _ (both (declared_new (find (codes "k") rest) 1) None (ap (λ t. declared_new t 1) (hidden (codes "k") (λ k. refl) refl)) refl)
       (both (declared_new (find (codes "s") rest) 1 then None) _ (both (declared_new (find (codes "s") rest) 1) None (ap (λ t. declared_new t 1) (hidden (codes "s") (λ k. refl) refl)) refl) refl)
 
-  main_has_none : in_functions scope (main_function (group_count n) ∷ []) ≡ None
+  main_has_none : in_functions scope (load_main (group_count n) ∷ []) ≡ None
   main_has_none = both (in_block scope Neither (block (map spawned_group (range_with_len 0 (group_count n)) ++ sync ∷ summed))) None (spawns_are_right 0 (group_count n) (sync ∷ summed) (omega arith) sum_is_right) refl
 
   functions_have_none : in_functions (globals (load_tree n)) (load_tree n) ≡ None
   functions_have_none =
       ap (λ g. in_functions g (load_tree n)) all_declared
-      ∙ transfer_has_none (functions 0 (group_count n) ++ main_function (group_count n) ∷ []) (groups_have_none 0 (group_count n) (main_function (group_count n) ∷ []) main_has_none)
+      ∙ transfer_has_none (functions 0 (group_count n) ++ load_main (group_count n) ∷ []) (groups_have_none 0 (group_count n) (load_main (group_count n) ∷ []) main_has_none)
 
   -- ## Main
 
-  main_is_there : (a len at count : ℕ) → without_main (main_from at (functions a len ++ main_function count ∷ [])) ≡ None
+  main_is_there : (a len at count : ℕ) → without_main (main_from at (functions a len ++ load_main count ∷ [])) ≡ None
   main_is_there a zero at count = refl
   main_is_there a (suc len) at count = main_is_there (a + 1) len (suc at) count
 

@@ -44,8 +44,8 @@ state_after (suc n) s = state_after n (after_transfer s)
 abbrev pub word : List ℕ → Word
 word text = record { name = text; line = 1 }
 
-abbrev pub named : List ℕ → Term
-named text = name (word text)
+abbrev pub name_term : List ℕ → Term
+name_term text = name (word text)
 
 abbrev pub block : List Statement → Block
 block [] = empty
@@ -53,13 +53,13 @@ block (s ∷ ss) = first s (block ss)
 
 -- `a[NAME]`
 abbrev pub account : List ℕ → Term
-account text = at (word (codes "a")) (named text)
+account text = at (word (codes "a")) (name_term text)
 
 -- ## A transfer
 
 -- `a[NAME] = a[NAME] OP x;`
 abbrev pub changed : List ℕ → Op → Statement
-changed text op = assign_at (word (codes "a")) (named text) (binary op (account text) (named (codes "x")))
+changed text op = assign_at (word (codes "a")) (name_term text) (binary op (account text) (name_term (codes "x")))
 
 -- `fn t(i, j, x) { atomic { a[i] = a[i] - x; a[j] = a[j] + x; } }`
 abbrev pub transfer_function : Declaration
@@ -97,19 +97,19 @@ spawned_group k = spawn (block (run (word (group_name k)) none ∷ []))
 -- `while k < 64 { s = s + a[k]; k = k + 1; }`
 abbrev pub summing : Statement
 summing =
-    repeat (binary Lt (named (codes "k")) (number (pos 64)))
+    repeat (binary Lt (name_term (codes "k")) (number (pos 64)))
     (block
-    (assign (word (codes "s")) (binary Add (named (codes "s")) (account (codes "k")))
-    ∷ assign (word (codes "k")) (binary Add (named (codes "k")) (number (pos 1)))
+    (assign (word (codes "s")) (binary Add (name_term (codes "s")) (account (codes "k")))
+    ∷ assign (word (codes "k")) (binary Add (name_term (codes "k")) (number (pos 1)))
     ∷ []))
 
 -- `let k = 0; let s = 0; while .. { .. } out s;`
 abbrev pub summed : List Statement
-summed = declare (word (codes "k")) (number (pos 0)) ∷ declare (word (codes "s")) (number (pos 0)) ∷ summing ∷ out (named (codes "s")) ∷ []
+summed = declare (word (codes "k")) (number (pos 0)) ∷ declare (word (codes "s")) (number (pos 0)) ∷ summing ∷ out (name_term (codes "s")) ∷ []
 
 -- `fn main() { .. }`: a strand for each of so many groups, and the sum of all accounts
-abbrev pub main_function : ℕ → Declaration
-main_function groups = func (codes "main") 1 [] (block (map spawned_group (range_with_len 0 groups) ++ sync ∷ summed))
+abbrev pub load_main : ℕ → Declaration
+load_main groups = func (codes "main") 1 [] (block (map spawned_group (range_with_len 0 groups) ++ sync ∷ summed))
 
 -- `cell a[64] = 1000;`
 abbrev pub accounts : Declaration
@@ -120,4 +120,4 @@ abbrev pub load_tree : ℕ → List Declaration
 load_tree n =
     accounts
     ∷ transfer_function
-    ∷ (map (λ k. group_function k (group k (transfers n n))) (range_with_len 0 (group_count n)) ++ main_function (group_count n) ∷ [])
+    ∷ (map (λ k. group_function k (group k (transfers n n))) (range_with_len 0 (group_count n)) ++ load_main (group_count n) ∷ [])

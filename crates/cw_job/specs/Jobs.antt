@@ -21,5 +21,5 @@ TakesWords program n = MainTakes program.code program.main n
 
 -- The program as a job without words, and with limits of 0. What a strand of a program wants, and what becomes of it, is the same in
 -- each job of that program.
-abbrev pub bare : Program → Job
-bare program = record { program = program; words = []; limits = record { fuel = 0; size = 0; aborts = 0; strands = 0; moves = 0 } }
+abbrev pub bare_job : Program → Job
+bare_job program = record { program = program; words = []; limits = record { fuel = 0; size = 0; aborts = 0; strands = 0; moves = 0 } }

@@ -17,7 +17,7 @@ pub struct Standing {
 
 #[tactic(auto, unfolding(crate::specs::Room::Strands::strands_of_job, crate::specs::Room::Strands::state_of, crate::specs::Room::Strands::IsOf))]
 impl Standing {
-    ghost use Rattle.cw_job.specs.Jobs.{Job, TakesWords, bare};
+    ghost use Rattle.cw_job.specs.Jobs.{Job, TakesWords, bare_job};
     ghost use Rattle.cw_job.specs.Room.Saves.{IsSavedOf, MayRollBack};
     ghost use Rattle.cw_job.specs.Room.Strands.{IsOf, state_of, strands_of_job};
 
@@ -59,7 +59,7 @@ impl Standing {
     /// The left strand of the fork that this one wants. This one goes on as the right strand.
     pub fn fork(&mut self, program: &Program) -> Result<Standing, OutOfMemory>
         requires stands { IsOf program.now self.old }
-        requires fork { (strands_of_job (bare program.now)).want (state_of self.old) ≡ Want.Fork }
+        requires fork { (strands_of_job (bare_job program.now)).want (state_of self.old) ≡ Want.Fork }
         ensures left { IfOk result (λ left. (job : Job) → job.program ≡ program.now →
             state_of left ≡ (strands_of_job job).left (state_of self.old)) }
         ensures right { OnOk result ((job : Job) → job.program ≡ program.now →
@@ -88,7 +88,7 @@ impl Standing {
 
     /// Keeps what it needs to stand here again, at the begin of a block that it wants.
     pub fn save(&self) -> Result<Saved, OutOfMemory>
-        ensures { IfOk result (λ saved. (program : Program) → IsOf program self.now → (strands_of_job (bare program)).want (state_of self.now) ≡ Want.Begin →
+        ensures { IfOk result (λ saved. (program : Program) → IsOf program self.now → (strands_of_job (bare_job program)).want (state_of self.now) ≡ Want.Begin →
             IsSavedOf program saved (state_of self.now)) }
     {
         let saved = self.strand.save()?;

@@ -10,9 +10,9 @@ use Rattle.cw_log.specs.declared.token.Token.{Token}
 use Rattle.cw_log.specs.Tokens.{made, refused, forked, right_of, branched}
 
 -- a read of any value, or a write of the value that was given
-abbrev pub access_kind : (cell : ℕ) → Option ℤ → ℤ → Kind
-access_kind c None v = Read c v
-access_kind c (Some w) v = Write c v
+abbrev pub kind_of_answer : (cell : ℕ) → Option ℤ → ℤ → Kind
+kind_of_answer c None v = Read c v
+kind_of_answer c (Some w) v = Write c v
 
 abbrev pub IsWritten : Option ℤ → ℤ → Type 0
 IsWritten None v = Unit {0}
@@ -24,7 +24,7 @@ IsAround x b = (b ≡ 0) ⊎ Contains x.around b
 
 -- the access is in the log, with the value that is answered; or the refused access is, with its conflict, whose victim is such a block
 abbrev pub Meets : (before after : Token) → (cell : ℕ) → Option ℤ → Access → Type 0
-Meets x y c w (Value v) = IsWritten w v × ((stamp : ℕ) × (y ≡ made x (access_kind c w v) stamp))
+Meets x y c w (Value v) = IsWritten w v × ((stamp : ℕ) × (y ≡ made x (kind_of_answer c w v) stamp))
 Meets x y c w (Conflict k) = (k.cell ≡ c) × (k.asker ≡ length x.own.nodes) × IsAround x k.victim × (y ≡ refused x k)
 
 -- two tokens, of which the left one goes on with the log; or one, in the left strand

@@ -151,7 +151,7 @@ pub record IsOn (budget : ℕ) (x : Token) : Type 0 where
   pub unspent : All (λ c. c.attempt ≡ budget → ⊥) (conflicts_in (logs x))
 
 -- and its strand goes on, and no conflict has a block around its place for its victim
-pub record Goes (budget : ℕ) (x : Token) : Type 0 where
+pub record GoesFree (budget : ℕ) (x : Token) : Type 0 where
   pub on : IsOn budget x
   pub phase : x.phase ≡ Going
   pub free : All (λ c. Fells x c → ⊥) (conflicts_in (logs x))

@@ -27,7 +27,7 @@ pub trait SharedBoard: Sync {
     ghost use Rattle.cw_tree.specs.declared.node.BlockState.TheVariants.{Committed, Aborted};
     ghost use Rattle.cw_tree.specs.declared.node.Kind.TheVariants.{Out};
     ghost use Rattle.cw_log.specs.declared.token.Token.{Token};
-    ghost use Rattle.cw_log.specs.Tokens.{AreOfOneFork, Goes, GoesBack, HasBlock, IsDone, IsInline, IsLater, IsOn, MayHalt, MayMerge, MaySplit, MayTakeBack, began, ended, halted, made, merged, once_split, taken_back, taken_in, turned, was_told};
+    ghost use Rattle.cw_log.specs.Tokens.{AreOfOneFork, GoesFree, GoesBack, HasBlock, IsDone, IsInline, IsLater, IsOn, MayHalt, MayMerge, MaySplit, MayTakeBack, began, ended, halted, made, merged, once_split, taken_back, taken_in, turned, was_told};
     ghost use Rattle.cw_log.specs.Answers.{Forks, Meets};
 
     /// What a token stands for.
@@ -41,18 +41,18 @@ pub trait SharedBoard: Sync {
 
     /// Begins a block in the token's place.
     fn begin(&self, token: &mut Self::Token) -> Result<(), OutOfMemory>
-        requires { Goes (budget self.now) (of token.old) }
+        requires { GoesFree (budget self.now) (of token.old) }
         ensures ok { OnOk result ((stamp : ℕ) × IsLater (of token.old) stamp × (of token.new ≡ began (of token.old) stamp)) }
         ensures err { OnErr result (of token.new ≡ of token.old) };
 
     /// Ends the block in the token's place, which is committed.
     fn commit(&self, token: &mut Self::Token)
-        requires goes { Goes (budget self.now) (of token.old) }
+        requires goes { GoesFree (budget self.now) (of token.old) }
         requires block { HasBlock (of token.old) }
         ensures { (stamp : ℕ) × (of token.new ≡ ended (of token.old) Committed stamp) };
 
     fn out(&self, token: &mut Self::Token, value: i64) -> Result<(), OutOfMemory>
-        requires { Goes (budget self.now) (of token.old) }
+        requires { GoesFree (budget self.now) (of token.old) }
         ensures ok { OnOk result ((stamp : ℕ) × (of token.new ≡ made (of token.old) (Out value) stamp)) }
         ensures err { OnErr result (of token.new ≡ of token.old) };
 
@@ -64,7 +64,7 @@ pub trait SharedBoard: Sync {
         cell: u32,
         write: Option<i64>,
     ) -> Result<Access, OutOfMemory>
-        requires goes { Goes (budget self.now) (of token.old) }
+        requires goes { GoesFree (budget self.now) (of token.old) }
         requires cell { cell < cells self.now }
         ensures ok { IfOk result (λ a. Meets (of token.old) (of token.new) cell write a) }
         ensures err { OnErr result (of token.new ≡ of token.old) };
@@ -74,7 +74,7 @@ pub trait SharedBoard: Sync {
         rt: &R,
         token: Self::Token,
     ) -> Result<Forked<Self::Token>, (Self::Token, OutOfMemory)>
-        requires { Goes (budget self.now) (of token) }
+        requires { GoesFree (budget self.now) (of token) }
         ensures ok { IfOk result (λ f. Forks of (of token) f) }
         ensures err { IfErr result (λ e. of e.0 ≡ of token) };
 

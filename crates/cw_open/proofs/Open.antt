@@ -1,4 +1,5 @@
 pub mod Growth
+pub mod Kinds
 pub mod Nesting
 pub mod Standing
 pub mod Staying

@@ -191,14 +191,14 @@ pub record WaitsForAlone (m : OpenMachine) (f : ℕ) : Type 0 where
   pub unstopped : has m.stopped (strand_of m.tree f) ≡ false
 
 -- strands that have come may finish, dead where they are dying, and then their fork may be joined; and so it may however they may finish
-pub record MayJoin (r : Rules) (m : OpenMachine) (f left right : ℕ) : Type 0 where
+pub record MayFinishAndJoin (r : Rules) (m : OpenMachine) (f left right : ℕ) : Type 0 where
   pub as_dying : IsRun r m (join_steps f left right (is_dying m left) (is_dying m right))
   pub either : (left_dead right_dead : Bool) → Allowed r m (finishes left left_dead) → Allowed r (after_open_step m (finishes left left_dead)) (finishes right right_dead)
       → IsRun r m (join_steps f left right left_dead right_dead)
 
 abbrev pub StrandsMayJoin : Type 0
 StrandsMayJoin =
-    (asked : List Node → List ℕ → Option ℤ → List ℕ) (first : List ℤ) (m : OpenMachine) → IsReachedBy (at_any_time asked) first m → (f l r : ℕ) → HaveCome m f l r → MayJoin (at_any_time asked) m f l r
+    (asked : List Node → List ℕ → Option ℤ → List ℕ) (first : List ℤ) (m : OpenMachine) → IsReachedBy (at_any_time asked) first m → (f l r : ℕ) → HaveCome m f l r → MayFinishAndJoin (at_any_time asked) m f l r
 
 -- strand s runs in state k, at place p, with the blocks that it had begun in state m
 pub record RunsAgain (m k : OpenMachine) (s p : ℕ) : Type 0 where

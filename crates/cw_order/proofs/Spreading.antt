@@ -17,10 +17,6 @@ pub read_all-set : (labels xs : List ℕ) (i v : ℕ) → Lacks xs i → read_al
 read_all-set labels [] i v l = refl
 read_all-set labels (x ∷ xs) i v l = cc (get_or-set_other labels i x v 0 l.0, read_all-set labels xs i v l.1)
 
-pub length-spread_over : (run : List ℕ) (base gap : ℕ) (labels : List ℕ) → length (spread_over run base gap labels) ≡ length labels
-length-spread_over [] base gap labels = refl
-length-spread_over (x ∷ run) base gap labels = length-spread_over run (base + gap) gap (set labels x base) ∙ length-set labels x base
-
 pub spread-beside : (run xs : List ℕ) (base gap : ℕ) (labels : List ℕ) → AreDisjoint run xs → read_all (spread_over run base gap labels) xs ≡ read_all labels xs
 spread-beside [] xs base gap labels d = refl
 spread-beside (x ∷ run) xs base gap labels d = spread-beside run xs (base + gap) gap (set labels x base) d.1 ∙ read_all-set labels xs x base d.0

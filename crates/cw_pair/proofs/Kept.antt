@@ -1,7 +1,7 @@
 -- Each step keeps the rule.
-use Rattle.std.proofs.Common.{◌≡◌, ℕ, zero, suc, ◌<◌, ◌⊎◌, List, [], ◌∷◌, ◌++◌, length, set, sym, refl, ap, ◌∙◌, subst, inl, inr, ⊎_elim, arith}
+use Rattle.std.proofs.Common.{◌≡◌, ℕ, ◌<◌, ◌⊎◌, List, [], ◌∷◌, ◌++◌, length, set, sym, refl, ap, ◌∙◌, subst, inl, inr, ⊎_elim, arith}
 use Rattle.std.specs.Prelude.{Option}
-use mathlib.Core.Option.{none, some, some-injective, some-ne-none}
+use mathlib.Core.Option.{none, some}
 use lib.ListN.{get_elem?}
 use Rattle.atomic_table.specs.Table.{Me, State, step, keeps, Allows, Splits, Joins}
 use Rattle.atomic_table.proofs.Lists.{at_set, set_again}
@@ -9,7 +9,7 @@ use Rattle.cw_base.proofs.Ends.{snoc_at}
 use Rattle.cw_pair.specs.declared.view.Note.{Note}
 use Rattle.cw_pair.specs.declared.view.Known.{Known}
 use Rattle.cw_pair.specs.Numbers as numbers
-use Rattle.cw_pair.specs.Numbers.{note, whole, lower, upper, gone, given, both, Has, MayGive, IsKept, looked}
+use Rattle.cw_pair.specs.Numbers.{note, lower, upper, gone, given, both, Has, MayGive, IsKept, looked}
 
 module _ {T : Type 0} where
   -- ## A view is cut in two
@@ -158,7 +158,7 @@ module _ {T : Type 0} where
   pub joins : {S : Type 0} (id : ℕ) (v : Known T) (other : ℕ) (w : Known T) → Joins {S = S} (λ s. IsKept s.views) id v other w (both v w) numbers.none
   joins id v other w s h at ne too = joined s.views id other v w h at ne too
 
-  -- ## Looks, and the beginning
+  -- ## Looks
 
   pub looks : {S : Type 0} (slots id : ℕ) (me : Me S (Known T)) → Allows (λ (s : State S (Known T)). IsKept s.views) slots id me 0 (λ n. n) (looked (step slots 0 0 0 none) me)
   looks slots id me s h deep at bound = (
@@ -168,17 +168,6 @@ module _ {T : Type 0} where
     subst IsKept (sym (set_again s.views id me.0 at)) h,
     (refl, λ x y p q e. h.agree id id me.0 me.0 x y at at p q e),
   )
-
-  only : (k : ℕ) (v : Known T) → get_elem? (whole ∷ []) k ≡ some v → (k ≡ 0) × (whole ≡ v)
-  only zero v e = (refl, some-injective whole v e)
-  only (suc k) v e = absurd (some-ne-none v (sym e))
-
-  pub starts : IsKept {T = T} (whole ∷ [])
-  starts = record {
-    agree = λ i j u v x y p q h g e. absurd (subst (λ (z : Known T). Has z.notes x) (sym (only i u p).1) h);
-    fresh = λ i j u v y p q h g. absurd (subst (λ (z : Known T). Has z.notes y) (sym (only j v q).1) h);
-    apart = λ i j n u v ne p q g h. ne ((only i u p).0 ∙ sym (only j v q).0);
-  }
 
   -- ## Two halves
 

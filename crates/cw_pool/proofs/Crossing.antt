@@ -20,12 +20,10 @@ use Rattle.cw_body.specs.contracts.body.Body as Body
 use Rattle.cw_body.specs.contracts.body.Body.TheInside as InBody
 use Rattle.cw_log.specs.declared.board.SharedBoard as SharedBoard
 use Rattle.cw_pool.specs.declared.naming.Naming as Naming
-use Rattle.cw_pool.specs.contracts.task.Memo as Memo
 use Rattle.cw_pool.specs.contracts.task.Below as Below
 use Rattle.cw_pool.specs.contracts.task.Base as Base
 use Rattle.cw_pool.specs.contracts.task.Running as Running
 use Rattle.cw_pool.specs.contracts.boxes.Room as Room
-use Rattle.cw_pool.specs.contracts.boxes.Task as Task
 use Rattle.cw_pool.specs.contracts.boxes.Boxes as Boxes
 use Rattle.cw_pool.specs.contracts.frames.Row as Row
 use Rattle.cw_pool.specs.contracts.frames.Frames as Frames
@@ -49,10 +47,7 @@ body_row_send = let a = in_body_send in search sendable depth 20
 body_send : IsSend Body.the_field.row
 body_send = let a = body_row_send in search sendable depth 20
 
-memo_send : (T : RattleType) → IsSend (Memo.the_field T).row
-memo_send T = search (crosses, sendable) depth 20
-
--- ## A task
+-- ## Parts of a task
 
 module _ (B J T : RattleType) (b : SharedBoard.Ghosts B.Denot T.Denot) (j : Naming.Ghosts J.Denot) (p : Pairing.Ghosts J.Denot) (token : IsSend T) where
   below_send : IsSend (Below.the_field T J p).row
@@ -66,9 +61,6 @@ module _ (B J T : RattleType) (b : SharedBoard.Ghosts B.Denot T.Denot) (j : Nami
 
   room_send : IsSend (Room.the_field B J T b j p).row
   room_send = let r = running_send in search (crosses, sendable) depth 20
-
-  pub task_send : IsSend (Task.the_field B J T b j p).row
-  task_send = let r = running_send in let h = room_send in search (crosses, sendable) depth 20
 
   -- ## A worker, and what all workers share
 

@@ -25,7 +25,7 @@ use Rattle.cw_record.specs.Built.{HasRecord, end_left, memory_left, outputs_left
 use Rattle.cw_record.specs.ClosedRun.{end_after}
 use Rattle.cw_record.specs.Coherent.{IsCoherent}
 use Rattle.cw_record.specs.Order.{order_of}
-use Rattle.cw_record.specs.Records.{job_of_record, HasEnded, IsNumberedDepthFirst}
+use Rattle.cw_record.specs.Records.{job_of_record, IsNumberedDepthFirst}
 use Rattle.cw_course.specs.Closings.{AreWorked, IsPutTogether, halt_in, tree_of}
 use Rattle.cw_course.proofs.Closings.Coherent.{worked_are_coherent}
 use Rattle.cw_board.specs.Boards.{AreOfCells}
@@ -95,11 +95,6 @@ end_is t (Some stop.Memory) memory outputs has = absurd has
 pub ends_so : (c : Closed) (first : List ℤ) (budget : ℕ) (kept : Result Record OutOfMemory) → HasRecord c.tree c.halt → IfOk kept (λ r. r.end ≡ end_left first budget c false) → IfOk kept (λ r. r.end ≢ Moves)
 ends_so c first budget (Err e) has end = tt
 ends_so c first budget (Ok r) has end = subst (λ (x : RecordEnd). x ≢ Moves) (sym end) (end_is c.tree c.halt (memory_left first c.journals) (outputs_left c.tree c.conflicts budget) has)
-
--- nor by one worker
-pub ended_so : (kept : Result Record OutOfMemory) → IfOk kept (λ r. HasEnded r.end) → IfOk kept (λ r. r.end ≢ Moves)
-ended_so (Err e) h = tt
-ended_so (Ok r) h = λ e. subst HasEnded e h
 
 -- ## Of what the answer of a run is made
 

@@ -6,9 +6,9 @@ use Rattle.cw_job.specs.Room.Strands.{strands_of_job}
 use Rattle.cw_log.specs.declared.token.Token.{Token}
 use Rattle.cw_log.specs.Tokens.{IsOn, MayMerge, logs, merged}
 use Rattle.cw_course.specs.Courses.{Course, Stops, logs_of}
-use Rattle.cw_course.specs.Closings.{Ends, bare}
+use Rattle.cw_course.specs.Closings.{Ends, bare_log}
 use Rattle.cw_body.specs.declared.stage.Stage.TheVariants as stage
-use Rattle.cw_body.specs.Bodies.{InBlocks, HasNoBlock, gave_up, joined, want_of}
+use Rattle.cw_body.specs.Bodies.{InBlocks, HasNoBlock, gave_up, joined_body, want_of}
 use Rattle.cw_pool.specs.declared.task.Mode.{Mode}
 use Rattle.cw_pool.specs.declared.task.Mode.TheVariants as mode
 use Rattle.cw_pool.specs.declared.task.Below.{Below}
@@ -32,11 +32,11 @@ dies_beside to how = mode.Dies to
 
 -- How the strand that forked stands, where its strands stand so: it stops if one was stopped; else it goes back, if one died, to the outer one
 -- of two victims, which began before the other.
-abbrev pub both : (left right : Mode) → Mode
-both mode.Stopped right = mode.Stopped
-both (mode.Dies to) right = dies_beside to right
-both mode.Goes right = right
-both mode.Waits right = right
+abbrev pub mode_of_both : (left right : Mode) → Mode
+mode_of_both mode.Stopped right = mode.Stopped
+mode_of_both (mode.Dies to) right = dies_beside to right
+mode_of_both mode.Goes right = right
+mode_of_both mode.Waits right = right
 
 -- What the split of a fork parted may be merged, and is, unless a strand was stopped.
 abbrev pub IsToMerge : (budget : ℕ) → Mode → Token → (fork : ℕ) → Type 0
@@ -57,7 +57,7 @@ pub record MayJoin (job : Job) (right : InBlocks) : Type 0 where
 -- With this token, in which the logs of both its strands are, the strand that forked stands so, once its body is made of those of the two: they
 -- are joined where both came to their ends, and the right one's gives up where one died.
 abbrev pub IsBehind : {T J : Type 0} → Job → (T → Token) → Mode → Token → (right left : InBlocks) → List (Below T J) → Base T J → Type 0
-IsBehind job of mode.Goes x right left bs b = MayJoin job right × IsRunning job of x (joined (strands_of_job job) right left) mode.Goes bs b
+IsBehind job of mode.Goes x right left bs b = MayJoin job right × IsRunning job of x (joined_body (strands_of_job job) right left) mode.Goes bs b
 IsBehind job of (mode.Dies to) x right left bs b = (right.stage ≡ stage.Lost → ⊥) × IsRunning job of x (gave_up right) (mode.Dies to) bs b
 IsBehind job of mode.Stopped x right left bs b = IsRunning job of x right mode.Stopped bs b
 IsBehind job of mode.Waits x right left bs b = ⊥
@@ -68,6 +68,6 @@ IsBehind job of mode.Waits x right left bs b = ⊥
 -- as its halt tells, unless it was told of a halt that none of its logs has.
 pub record IsWorked (job : Job) (x : Token) : Type 0 where
   pub course : Course
-  pub written : map bare (logs x) ≡ logs_of course 0 0 0
+  pub written : map bare_log (logs x) ≡ logs_of course 0 0 0
   pub did : Stops (strands_of_job job) (strands_of_job job).start course
   pub ends : (x.stop ≡ None → x.told ≡ false) → Ends (strands_of_job job) x.stop course

@@ -21,6 +21,6 @@ module _ {T J : Type 0} (job : Job) (of : T → Token) where
     pub right : r ≡ bodies.right_of (strands_of_job job) body
 
   -- and the board has made two tokens of its own, of a fork with this number
-  abbrev pub HasForked : (y z : Token) (fork : ℕ) (body left right : InBlocks) (bs : List (Below T J)) (b : Base T J) → Type 0
-  HasForked y z fork body left right bs b =
+  abbrev pub AreForkTokens : (y z : Token) (fork : ℕ) (body left right : InBlocks) (bs : List (Below T J)) (b : Base T J) → Type 0
+  AreForkTokens y z fork body left right bs b =
       (x : Token) × IsForking x body left right bs b × ((stamp : ℕ) × (y ≡ forked x stamp fork)) × ((column : ℕ) × (z ≡ right_of x fork column))

@@ -4,7 +4,7 @@ use Rattle.std.specs.Prelude.{[], ◌∷◌, pos}
 use Rattle.cw_code.specs.declared.program.Program.{Program}
 use Rattle.cw_code.specs.Mnemonics.{push, ret}
 use Rattle.cw_code.specs.Worked.{code}
-use Rattle.cw_job.specs.Jobs.{Job, bare}
+use Rattle.cw_job.specs.Jobs.{Job, bare_job}
 
 -- a program whose main does nothing
 abbrev pub idle : Program
@@ -18,4 +18,4 @@ idle = record {
 
 -- any run: each picks its own
 abbrev pub no_job : Job
-no_job = bare idle
+no_job = bare_job idle

@@ -19,7 +19,7 @@ use Rattle.cw_log.specs.declared.token.Phase.TheVariants.{Going, Waiting, Over}
 use Rattle.cw_log.specs.declared.token.Token.{Token}
 use Rattle.cw_log.specs.Tokens.{IsOn, IsOff, Fells, conflicts_in, logs}
 use Rattle.cw_course.specs.Courses.{Course, nothing, rights}
-use Rattle.cw_course.specs.Closings.{FaultsIn, bare}
+use Rattle.cw_course.specs.Closings.{FaultsIn, bare_log}
 use Rattle.cw_course.specs.Trails.{Trail, opens, in_block, in_left, in_right, Stands, Stopped, page, nodes_of, place_of, strand_in}
 use Rattle.cw_body.specs.declared.stage.Stage.TheVariants as stage
 use Rattle.cw_body.specs.Bodies.{InBlocks, PendingBegin, one_fork_more, want_of}
@@ -84,8 +84,8 @@ AreFalling (b ∷ bs) = (0 < b) × All (λ c. c < b) bs × AreFalling bs
 
 -- What is written in a token: a log that began so, with what is open in it, and a course behind that.
 pub record Fits (x : Token) (a : Start) (t : Trail StrandState) (cs : Course) : Type 0 where
-  pub own : bare x.own ≡ record { column = a.column; from = a.from; fork = a.at; nodes = nodes_of t cs; conflicts = [] }
-  pub joined : map bare x.joined ≡ rights_of t cs a.column
+  pub own : bare_log x.own ≡ record { column = a.column; from = a.from; fork = a.at; nodes = nodes_of t cs; conflicts = [] }
+  pub joined : map bare_log x.joined ≡ rights_of t cs a.column
   pub strand : x.strand ≡ strand_in t
   pub place : x.place ≡ place_of t
   pub around : x.around ≡ stamps_in t a.above
@@ -154,11 +154,11 @@ module _ (job : Job) where
     pub off : IsOff x
     pub fault : HasFault x.stop cs a.column (strand_in t) (length (page t).nodes)
 
-  abbrev pub StandsSo : Mode → Token → InBlocks → Start → Trail StrandState → Course → Type 0
-  StandsSo mode.Goes x body a t cs = StandsGoing x body a t cs
-  StandsSo mode.Waits x body a t cs = StandsWaiting x body a t cs
-  StandsSo (mode.Dies to) x body a t cs = StandsDying to x body a t cs
-  StandsSo mode.Stopped x body a t cs = StandsStopped x a t cs
+  abbrev pub StandsInMode : Mode → Token → InBlocks → Start → Trail StrandState → Course → Type 0
+  StandsInMode mode.Goes x body a t cs = StandsGoing x body a t cs
+  StandsInMode mode.Waits x body a t cs = StandsWaiting x body a t cs
+  StandsInMode (mode.Dies to) x body a t cs = StandsDying to x body a t cs
+  StandsInMode mode.Stopped x body a t cs = StandsStopped x a t cs
 
 -- ## What waits
 
@@ -219,22 +219,22 @@ module _ {T J : Type 0} (job : Job) (of : T → Token) where
     IsSplit how = a.split ≡ true
 
   -- The entries of a stack, the newest first, are what waits in this log, with these forks open, and in those below, down to the lowest one.
-  pub data AreBelow (lowest : Start) : Start → Trail StrandState → List Open → List (Below T J) → Type 0 where
-    bottom : AreBelow lowest lowest opens [] []
+  pub data AreWaitingBelow (lowest : Start) : Start → Trail StrandState → List Open → List (Below T J) → Type 0 where
+    bottom : AreWaitingBelow lowest lowest opens [] []
     block : {a : Start} {t : Trail StrandState} {os : List Open} {bs : List (Below T J)} {cs : Course} {b : StrandState} {stamp : ℕ}
-        → AreBelow lowest a t os bs → AreBelow lowest a (in_block t cs b stamp) os bs
+        → AreWaitingBelow lowest a t os bs → AreWaitingBelow lowest a (in_block t cs b stamp) os bs
     left : {a : Start} {t : Trail StrandState} {os : List Open} {bs : List (Below T J)} {cs : Course} {b : StrandState} {column stamp fork : ℕ} {half : Note (Memo T)}
-        → IsHalf job of half (beside (strands_of_job job) a t cs b column fork) → AreBelow lowest a t os bs
-        → AreBelow lowest a (in_left t cs b (Some column) stamp) (opened (Beside fork) a t ∷ os) (below.Left fork half ∷ bs)
+        → IsHalf job of half (beside (strands_of_job job) a t cs b column fork) → AreWaitingBelow lowest a t os bs
+        → AreWaitingBelow lowest a (in_left t cs b (Some column) stamp) (opened (Beside fork) a t ∷ os) (below.Left fork half ∷ bs)
     first : {a : Start} {t : Trail StrandState} {os : List Open} {bs : List (Below T J)} {cs : Course} {b : StrandState} {stamp : ℕ} {right : InBlocks}
-        → right ≡ goes_in job ((strands_of_job job).right b) (map one_fork_more (begins_in t a.begins)) → AreBelow lowest a t os bs
-        → AreBelow lowest a (in_left t cs b None stamp) (opened (First (length (nodes_of t cs) + 2)) a t ∷ os) (below.Inline right ∷ bs)
+        → right ≡ goes_in job ((strands_of_job job).right b) (map one_fork_more (begins_in t a.begins)) → AreWaitingBelow lowest a t os bs
+        → AreWaitingBelow lowest a (in_left t cs b None stamp) (opened (First (length (nodes_of t cs) + 2)) a t ∷ os) (below.Inline right ∷ bs)
     second : {a : Start} {t : Trail StrandState} {os : List Open} {bs : List (Below T J)} {cs ls : Course} {b l : StrandState} {stamp : ℕ} {left : InBlocks}
-        → left.state ≡ l → AreBelow lowest a t os bs
-        → AreBelow lowest a (in_right t cs b stamp ls l) (opened Second a t ∷ os) (below.Second left ∷ bs)
+        → left.state ≡ l → AreWaitingBelow lowest a t os bs
+        → AreWaitingBelow lowest a (in_right t cs b stamp ls l) (opened Second a t ∷ os) (below.Second left ∷ bs)
     taken : {a r : Start} {t : Trail StrandState} {os : List Open} {bs : List (Below T J)} {cs ls : Course} {b : StrandState} {column stamp fork : ℕ} {tok : T} {left : InBlocks}
         → IsTaken job of tok left a t cs ls b column stamp → (of tok).forks ≡ opened (Beside fork) a t ∷ os → r ≡ beside (strands_of_job job) a t cs b column fork
-        → AreBelow lowest a t os bs → AreBelow lowest r opens [] (below.Taken tok left ∷ bs)
+        → AreWaitingBelow lowest a t os bs → AreWaitingBelow lowest r opens [] (below.Taken tok left ∷ bs)
 
   -- ## The whole
 
@@ -247,5 +247,5 @@ module _ {T J : Type 0} (job : Job) (of : T → Token) where
     pub course : Course
     pub reached : IsReached (strands_of_job job) start.state
     pub written : Fits x start trail course
-    pub below : AreBelow lowest start trail x.forks (reverse bs)
-    pub stands : StandsSo job how x body start trail course
+    pub below : AreWaitingBelow lowest start trail x.forks (reverse bs)
+    pub stands : StandsInMode job how x body start trail course

@@ -1,7 +1,7 @@
 //! Forks.
 ghost use Rattle.std.specs.Prelude.{◌<◌};
 ghost use Rattle.std.specs.Vec.{vec_len, vec_capacity};
-ghost use Rattle.cw_pool.specs.Forks.{HasForked, IsForking};
+ghost use Rattle.cw_pool.specs.Forks.{AreForkTokens, IsForking};
 
 use crate::moves::halts;
 use crate::{Base, Below, Memo, Mode, Naming, Running, Scene};
@@ -120,7 +120,7 @@ fn apart<B: SharedBoard, J: Naming>(
     below: Vec<Below<B::Token, J>>,
     base: Base<B::Token, J>,
 ) -> (Running<B, J>, Option<Running<B, J>>)
-    requires forked { HasForked J.job B.of (B.of token) (B.of other) fork before.value left right below.items base }
+    requires forked { AreForkTokens J.job B.of (B.of token) (B.of other) fork before.value left right below.items base }
     requires room { vec_len below < vec_capacity below }
     requires more { source.old.next < source.old.end }
 {

@@ -1,6 +1,6 @@
 //! Where the two strands of a fork that has two tokens come together.
 ghost use Rattle.std.specs.Prelude.{◌≡◌};
-ghost use Rattle.cw_pool.specs.Ends.{IsMerged, IsToMerge, both};
+ghost use Rattle.cw_pool.specs.Ends.{IsMerged, IsToMerge, mode_of_both};
 
 use crate::ends::{behind, may_end};
 use crate::sides::{LeftTask, RightTask, taken_apart, task_of};
@@ -10,7 +10,7 @@ use std::sync::Wait;
 
 /// How the strand that forked stands, whose strands stand so.
 fn both(left: Mode, right: Mode) -> Mode
-    ensures { result ≡ both left right }
+    ensures { result ≡ mode_of_both left right }
 {
     match left {
         Mode::Stopped => Mode::Stopped,

@@ -34,8 +34,8 @@ abbrev pub added : List Node → ℕ → Kind → ℕ → List Node
 added t p kind stamp = t ++ fresh_node p kind stamp ∷ []
 
 -- a fork more, with its left strand
-abbrev pub forked : List Node → ℕ → ℕ → List Node
-forked t p stamp = added (added t p Fork stamp) (length t) Strand 0
+abbrev pub added_fork : List Node → ℕ → ℕ → List Node
+added_fork t p stamp = added (added t p Fork stamp) (length t) Strand 0
 
 abbrev pub with_entry : List (List Entry) → ℕ → Entry → Option (List Entry) → List (List Entry)
 with_entry kept c e None = kept
@@ -87,7 +87,7 @@ drawn_after w memory since d = d
 
 -- a fork with its left strand, and the next node goes into that
 abbrev pub after_fork : Drawn → Drawn
-after_fork d = record d { tree = forked d.tree d.place (d.clock + 1); place = length d.tree + 1; clock = d.clock + 1 }
+after_fork d = record d { tree = added_fork d.tree d.place (d.clock + 1); place = length d.tree + 1; clock = d.clock + 1 }
 
 -- a strand of a fork, and the next node goes into it
 abbrev pub after_start : (fork : ℕ) → Drawn → Drawn

@@ -14,7 +14,7 @@ use Rattle.cw_tree.specs.Nodes.{parent_of, stamp_of, end_of, is_node, is_block, 
 use Rattle.cw_tree.specs.Walks.{path, xparent}
 use Rattle.cw_tree.specs.Series.{place}
 use Rattle.cw_tree.specs.Accesses.{by_key}
-use Rattle.cw_tree.specs.Refusals.{victim_of, telling, refused}
+use Rattle.cw_tree.specs.Refusals.{victim_of, telling, refused_node}
 use Rattle.cw_record.specs.declared.record_end.RecordEnd.{RecordEnd}
 use Rattle.cw_record.specs.declared.record_end.RecordEnd.TheVariants.{Finished, Fault, Budget, Moves}
 use Rattle.cw_record.specs.declared.items.OrderItem.{OrderItem}
@@ -71,7 +71,7 @@ items_in t p (suc k) b =
 
 -- the place of what a conflict refused: an access itself, or where the block stands
 abbrev pub place_of_refused : List Node → Conflict → ℕ
-place_of_refused t c = if is_some (victim_of c) then parent_of t (refused t c) else c.asker
+place_of_refused t c = if is_some (victim_of c) then parent_of t (refused_node t c) else c.asker
 
 -- Where a run came to its end: the pending blocks above this place, and it where it is one, are in the order.
 abbrev pub place_of_end : List Node → List Conflict → ℕ → RecordEnd → ℕ

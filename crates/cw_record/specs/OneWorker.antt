@@ -14,12 +14,12 @@ use Rattle.cw_record.specs.declared.worker.Worker.{Worker}
 use Rattle.cw_record.specs.Drawn.{drawn, drawn_after}
 
 -- the law of the strands that it runs
-abbrev pub law_of : Worker → Strands StrandState
-law_of w = strands_of_job (job_of_task w.task)
+abbrev pub law_of_worker : Worker → Strands StrandState
+law_of_worker w = strands_of_job (job_of_task w.task)
 
 -- what the strand that it runs wants
-abbrev pub want_of : Worker → Want
-want_of w = (law_of w).want (state_of w.strand)
+abbrev pub want_of_worker : Worker → Want
+want_of_worker w = (law_of_worker w).want (state_of w.strand)
 
 -- It goes from strand to strand: what it runs by, memory and outputs stay.
 pub record SwitchesStrand (old new : Worker) : Type 0 where
@@ -34,21 +34,21 @@ MayPutBack w since = AreSince w.undo w.memory.items since
 
 -- they may where its strand gives up its block: no other want looks at it
 abbrev pub LooksRight : Worker → List Since → Type 0
-LooksRight w since = want_of w ≡ Cancel → MayPutBack w since
+LooksRight w since = want_of_worker w ≡ Cancel → MayPutBack w since
 
 -- Only its begun blocks, with what they may put back, are others: those after what its strand wants, each the block of one strand, number 0.
 pub record FollowsBlocks (old new : Worker) : Type 0 where
   pub same : new ≡ record old { undo = new.undo }
-  pub blocks : BlocksFollow (want_of old) 0 old.memory.items old.undo new.undo
+  pub blocks : BlocksFollow (want_of_worker old) 0 old.memory.items old.undo new.undo
 
 -- It did what its strand wants, in memory, outputs and drawing: what it runs by, its begun blocks and the waiting strands stay.
-pub record Acts (old new : Worker) : Type 0 where
+pub record DoesItsWant (old new : Worker) : Type 0 where
   pub task : new.task ≡ old.task
   pub branches : new.branches ≡ old.branches
-  pub memory : new.memory.items ≡ memory_after (want_of old) old.memory.items
-  pub outputs : new.outputs.items ≡ outputs_after (want_of old) old.outputs.items
+  pub memory : new.memory.items ≡ memory_after (want_of_worker old) old.memory.items
+  pub outputs : new.outputs.items ≡ outputs_after (want_of_worker old) old.outputs.items
   pub undo : new.undo ≡ old.undo
-  pub drawing : (since : List Since) → LooksRight old since → drawn new.drawing ≡ drawn_after (want_of old) old.memory.items since (drawn old.drawing)
+  pub drawing : (since : List Since) → LooksRight old since → drawn new.drawing ≡ drawn_after (want_of_worker old) old.memory.items since (drawn old.drawing)
 
 -- One fork more, with this node, whose right strand, in this state, is to come.
 abbrev pub WaitsOnLeft : (old new : List Branch) → (node : ℕ) → StrandState → Type 0

@@ -32,16 +32,16 @@ abbrev pub right_of : Script → Script
 right_of (fork l r) = r
 right_of x = done
 
-abbrev pub behind : (right : Script) → Script
-behind (sync x) = x
-behind x = x
+abbrev pub behind_sync : (right : Script) → Script
+behind_sync (sync x) = x
+behind_sync x = x
 
 -- how many wants and forks it has
-abbrev pub size_of : Script → ℕ
-size_of done = 0
-size_of (sync x) = size_of x
-size_of (act w x) = 1 + size_of x
-size_of (fork l r) = 1 + size_of l + size_of r
+abbrev pub script_size : Script → ℕ
+script_size done = 0
+script_size (sync x) = script_size x
+script_size (act w x) = 1 + script_size x
+script_size (fork l r) = 1 + script_size l + script_size r
 
 -- the strands of a main with this script
 abbrev pub scripted : Script → Strands Script
@@ -52,6 +52,6 @@ scripted main = record {
   answer = λ x given. after_answer x;
   left = left_of;
   right = right_of;
-  joined = λ r l. behind r;
-  depth = size_of;
+  joined = λ r l. behind_sync r;
+  depth = script_size;
 }

@@ -13,7 +13,7 @@ ghost use Rattle.cw_serial.specs.InMemory.{begun_after};
 ghost use Rattle.cw_serial.specs.Wants.{Since, answer_to};
 ghost use Rattle.cw_record.specs.Drawn.{after_fork, after_join, after_start, blank, drawn};
 ghost use Rattle.cw_record.specs.Records.{IsWorkerRun};
-ghost use Rattle.cw_record.specs.OneWorker.{Acts, AllBranchesStand, AllStand, FollowsBlocks, LooksRight, SwitchesStrand, WaitsOnLeft, law_of, unstarted, want_of};
+ghost use Rattle.cw_record.specs.OneWorker.{DoesItsWant, AllBranchesStand, AllStand, FollowsBlocks, LooksRight, SwitchesStrand, WaitsOnLeft, law_of_worker, unstarted, want_of_worker};
 ghost use Rattle.cw_record.specs.declared.worker.Branch.TheVariants.{Right as OnRight};
 ghost use Rattle.cw_record.specs.declared.record_end.RecordEnd.TheVariants as ending;
 
@@ -69,7 +69,7 @@ impl<'a> Worker<'a> {
         ensures outputs { IfOk result (λ w. w.outputs.items ≡ []) }
         ensures undo { IfOk result (λ w. w.undo.begun ≡ []) }
         ensures drawing { IfOk result (λ w. drawn w.drawing ≡ blank (length w.memory.items)) }
-        ensures strand { IfOk result (λ w. state_of w.strand ≡ (law_of w).start) }
+        ensures strand { IfOk result (λ w. state_of w.strand ≡ (law_of_worker w).start) }
         ensures branches { IfOk result (λ w. w.branches ≡ []) }
         ensures stands { IfOk result (λ w. AllStand w) }
     {
@@ -130,7 +130,7 @@ impl<'a> Worker<'a> {
     /// Begins or ends the block that the strand wants to begin or to end, or keeps what its write will replace. All blocks are told as those
     /// of strand 0, for the innermost one that is begun is always that of the strand that is run.
     fn follow(&mut self) -> Result<(), OutOfMemory>
-        requires done { IsSome (begun_after (want_of self.old) 0 self.old.undo) }
+        requires done { IsSome (begun_after (want_of_worker self.old) 0 self.old.undo) }
         ensures { OnOk result (FollowsBlocks self.old self.new) }
     {
         if !self.undo.follow(0, self.strand.want(), &self.memory)? {
@@ -142,13 +142,13 @@ impl<'a> Worker<'a> {
     /// Does what the strand stands at, and goes on to its next want. The blocks were followed before.
     fn act(&mut self, alloc: Global) -> Result<(), OutOfMemory>
         requires there { self.old.drawing.place < length self.old.drawing.tree }
-        requires answered { takes_answer (want_of self.old) ≡ true }
-        requires block { want_of self.old ≡ Want.End → IsTrue (is_block self.old.drawing.tree self.old.drawing.place) }
+        requires answered { takes_answer (want_of_worker self.old) ≡ true }
+        requires block { want_of_worker self.old ≡ Want.End → IsTrue (is_block self.old.drawing.tree self.old.drawing.place) }
         requires stands { IsOf self.old.task.program.now self.old.strand }
-        ensures acts { OnOk result (Acts self.old self.new) }
+        ensures acts { OnOk result (DoesItsWant self.old self.new) }
         ensures stands { OnOk result (IsOf self.old.task.program.now self.new.strand) }
         ensures strand { OnOk result ((since : List Since) → LooksRight self.old since → state_of self.new.strand
-            ≡ (law_of self.old).answer (state_of self.old.strand) (answer_to (want_of self.old) self.old.memory.items since)) }
+            ≡ (law_of_worker self.old).answer (state_of self.old.strand) (answer_to (want_of_worker self.old) self.old.memory.items since)) }
     {
         let given = self.do_want(alloc)?;
         self.strand.answer(given, self.task.program)
@@ -157,10 +157,10 @@ impl<'a> Worker<'a> {
     /// Does what the strand wants in memory and outputs, and draws it.
     fn do_want(&mut self, alloc: Global) -> Result<Given, OutOfMemory>
         requires there { self.old.drawing.place < length self.old.drawing.tree }
-        requires answered { takes_answer (want_of self.old) ≡ true }
-        requires block { want_of self.old ≡ Want.End → IsTrue (is_block self.old.drawing.tree self.old.drawing.place) }
-        ensures given { IfOk result (λ g. (since : List Since) → LooksRight self.old since → g ≡ answer_to (want_of self.old) self.old.memory.items since) }
-        ensures acts { OnOk result (Acts self.old self.new) }
+        requires answered { takes_answer (want_of_worker self.old) ≡ true }
+        requires block { want_of_worker self.old ≡ Want.End → IsTrue (is_block self.old.drawing.tree self.old.drawing.place) }
+        ensures given { IfOk result (λ g. (since : List Since) → LooksRight self.old since → g ≡ answer_to (want_of_worker self.old) self.old.memory.items since) }
+        ensures acts { OnOk result (DoesItsWant self.old self.new) }
         ensures strand { OnOk result (self.new.strand ≡ self.old.strand) }
     {
         match self.strand.want() {
@@ -195,13 +195,13 @@ impl<'a> Worker<'a> {
     /// Goes on with the left strand of the fork that the strand wants.
     fn fork(&mut self, alloc: Global) -> Result<(), OutOfMemory>
         requires there { self.old.drawing.place < length self.old.drawing.tree }
-        requires wanted { want_of self.old ≡ Want.Fork }
+        requires wanted { want_of_worker self.old ≡ Want.Fork }
         requires stands { IsOf self.old.task.program.now self.old.strand }
         ensures keeps { OnOk result (SwitchesStrand self.old self.new) }
         ensures drawing { OnOk result (drawn self.new.drawing ≡ after_fork (drawn self.old.drawing)) }
-        ensures left { OnOk result (state_of self.new.strand ≡ (law_of self.old).left (state_of self.old.strand)) }
+        ensures left { OnOk result (state_of self.new.strand ≡ (law_of_worker self.old).left (state_of self.old.strand)) }
         ensures right { OnOk result (WaitsOnLeft self.old.branches self.new.branches (length self.old.drawing.tree)
-            ((law_of self.old).right (state_of self.old.strand))) }
+            ((law_of_worker self.old).right (state_of self.old.strand))) }
         ensures stands { OnOk result (AllBranchesStand self.old.task.program.now self.old.branches → AllStand self.new) }
     {
         let fork = self.drawing.forks()?;
@@ -231,7 +231,7 @@ impl<'a> Worker<'a> {
         ensures drawing { OnOk result (drawn self.new.drawing ≡ after_join fork (drawn self.old.drawing)) }
         ensures branches { OnOk result (self.new.branches ≡ self.old.branches) }
         ensures strand { OnOk result (state_of self.new.strand
-            ≡ (law_of self.old).joined (state_of self.old.strand) (state_of left)) }
+            ≡ (law_of_worker self.old).joined (state_of self.old.strand) (state_of left)) }
         ensures stands { OnOk result (IsOf self.old.task.program.now self.new.strand) }
     {
         self.drawing.joins(fork);

@@ -6,7 +6,7 @@ use Rattle.cw_tree.specs.declared.conflict.Conflict.{Conflict}
 use Rattle.cw_tree.specs.Nodes.{parent_of, stamp_of, is_pending, is_aborted, is_fork, is_tried}
 use Rattle.cw_tree.specs.Series.{strand_of, last_of}
 use Rattle.cw_tree.specs.Attempts.{tried_cell, same_cell, block_attempt, access_attempt}
-use Rattle.cw_tree.specs.Refusals.{Spent, refused, telling, victim_of}
+use Rattle.cw_tree.specs.Refusals.{Spent, refused_node, telling, victim_of}
 use Rattle.cw_tree.specs.Histories.{IsHistory}
 
 -- m is block b or an earlier attempt of it: from m on, all that stands before b in its place was rolled back
@@ -30,9 +30,9 @@ HasAttempts attempts cs Is = (k : ℕ) → 1 ≤ k → k ≤ attempts → (c : C
 -- Where a conflict tells that strand s spent its budget, all attempts at what it refused are recorded: those of a block of s that is pending,
 -- or those of the access that is the last in s; that block or access is the last of the attempts.
 pub data AreRecorded (t : List Node) (cs : List Conflict) (budget s : ℕ) (told : Conflict) : Type 0 where
-  of_block : (b : ℕ) → refused t told ≡ b → IsTrue (is_pending t b) → strand_of t b ≡ s → block_attempt t b ≡ budget
+  of_block : (b : ℕ) → refused_node t told ≡ b → IsTrue (is_pending t b) → strand_of t b ≡ s → block_attempt t b ≡ budget
       → HasAttempts budget cs (λ c. (m : ℕ) × IsAttemptOf t b m × (victim_of c ≡ Some (stamp_of t m))) → AreRecorded t cs budget s told
-  of_access : (v : ℕ) → refused t told ≡ v → IsTrue (is_tried t v) → last_of t s ≡ v → access_attempt t v ≡ budget
+  of_access : (v : ℕ) → refused_node t told ≡ v → IsTrue (is_tried t v) → last_of t s ≡ v → access_attempt t v ≡ budget
       → HasAttempts budget cs (λ c. (victim_of c ≡ None) × IsRefusalOf t v c.asker) → AreRecorded t cs budget s told
 
 abbrev pub RecordsAttempts : List Node → List Conflict → (budget s : ℕ) → Type 0

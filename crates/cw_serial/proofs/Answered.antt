@@ -16,7 +16,7 @@ use Rattle.cw_serial.specs.InMemory.{before_end, want_before_end}
 use Rattle.cw_serial.specs.StrandTree.{StrandTree, stands, at, put}
 use Rattle.cw_serial.specs.Machine.{steps_down}
 use Rattle.cw_serial.specs.Spots.{turn_to, Spot, standing, waiting, spot, IsSettled}
-use Rattle.cw_serial.specs.TableInMemory.{IsSpotAt, Holds, Answers, SettlesTo, strand_in, strand_in_row, want_of, want_at, over_by, over_at, awaited_of, awaited_at}
+use Rattle.cw_serial.specs.TableInMemory.{IsSpotAt, Holds, AnswersStrand, SettlesTo, strand_in, strand_in_row, want_of, want_at, over_by, over_at, awaited_of, awaited_at}
 use Rattle.cw_serial.proofs.Replaced.{Beside, replaced, spot_beneath, spot_beside, spot_under, at_spot, at_is, put_is, settled_no_forks, settled_no_joins}
 use Rattle.cw_serial.proofs.Numbered.{turns_total, turns_unique, turns_of_left, turns_of_right}
 use Rattle.cw_serial.proofs.Waiting.{want_there, over_there, awaited_there, puts_here, puts_elsewhere}
@@ -93,7 +93,7 @@ module _ {S A : Type 0} (s : Strands A) (state : S → A) (table : Table S) (tre
         let (n, b, hr, or) = over_spot x.right (q ++ turn_to k true ∷ []) right_named right in
         settled_no_joins s tree settled q k m n a b here hl hr ol or
 
-module _ {S A : Type 0} (s : Strands A) (state : S → A) (old new : Table S) (i : ℕ) (given : Given) (a : Answers s state old i given new)
+module _ {S A : Type 0} (s : Strands A) (state : S → A) (old new : Table S) (i : ℕ) (given : Given) (a : AnswersStrand s state old i given new)
     (tree : StrandTree A) (holds : Holds state old tree) (settled : IsSettled s tree) (q : List Turn) (up : steps_down old.names.items i ≡ Some q) where
   names_same : new.names ≡ old.names
   names_same = a.back.names ∙ a.gone.names

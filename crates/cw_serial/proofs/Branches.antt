@@ -5,7 +5,7 @@ use Rattle.std.specs.Option.{option_or}
 use Rattle.std.proofs.lemmas.Bool.{eq-eqb}
 use Rattle.cw_strand.specs.Strands.{Strands, is_over}
 use Rattle.cw_tree.specs.declared.picks.Turn.{Turn}
-use Rattle.cw_serial.specs.StrandTree.{StrandTree, stands, waits, ended, meet, goes_on, at, put}
+use Rattle.cw_serial.specs.StrandTree.{StrandTree, stands, waits, state_at_end, meet, goes_on, at, put}
 use Rattle.cw_serial.specs.Machine.{Begun, may_pick}
 use Rattle.cw_serial.specs.DepthFirst.{beneath, leftmost}
 use Rattle.cw_serial.proofs.Deep.{meet_left, meet_right}
@@ -61,11 +61,11 @@ module _ {A : Type 0} (s : Strands A) where
   beside (on_left k b r) t = waits k t (goes_on s 0 r)
   beside (on_right k b n l) t = waits k (stands n l) t
 
-  plugged_on : (x : Branch A) (c : List (Branch A)) (t : StrandTree A) → ended s t ≡ None → plugged (x ∷ c) t ≡ plugged c (beside x t)
+  plugged_on : (x : Branch A) (c : List (Branch A)) (t : StrandTree A) → state_at_end s t ≡ None → plugged (x ∷ c) t ≡ plugged c (beside x t)
   plugged_on (on_left k b r) c t e = ap (plugged c) (meet_left s (goes_on s) k t (goes_on s 0 r) e)
   plugged_on (on_right k b n l) c t e = ap (plugged c) (meet_right s (goes_on s) k (stands n l) t e)
 
-  beside_stays : (x : Branch A) (t : StrandTree A) → ended s (beside x t) ≡ None
+  beside_stays : (x : Branch A) (t : StrandTree A) → state_at_end s (beside x t) ≡ None
   beside_stays (on_left k b r) t = refl
   beside_stays (on_right k b n l) t = refl
 
@@ -74,7 +74,7 @@ module _ {A : Type 0} (s : Strands A) where
   at_beside (on_right k b n l) t p = ap (λ e. cond e (at s t p) None) (eq-eqb k k refl)
 
   -- a strand stands where it stands beneath the forks
-  pub at_plugged : (c : List (Branch A)) (t : StrandTree A) (p : List Turn) → ended s t ≡ None → at s (plugged c t) (way c ++ p) ≡ at s t p
+  pub at_plugged : (c : List (Branch A)) (t : StrandTree A) (p : List Turn) → state_at_end s t ≡ None → at s (plugged c t) (way c ++ p) ≡ at s t p
   at_plugged [] t p e = refl
   at_plugged (x ∷ c) t p e =
       ap (λ u. at s u (way (x ∷ c) ++ p)) (plugged_on x c t e)
@@ -86,7 +86,7 @@ module _ {A : Type 0} (s : Strands A) where
   put_beside (on_right k n m l) c t p b = refl
 
   -- one that becomes another does so beneath the forks
-  pub put_plugged : (c : List (Branch A)) (t : StrandTree A) (p : List Turn) (b : A) → ended s t ≡ None → put s (plugged c t) (way c ++ p) b ≡ plugged c (put s t p b)
+  pub put_plugged : (c : List (Branch A)) (t : StrandTree A) (p : List Turn) (b : A) → state_at_end s t ≡ None → put s (plugged c t) (way c ++ p) b ≡ plugged c (put s t p b)
   put_plugged [] t p b e = refl
   put_plugged (x ∷ c) t p b e =
       ap (λ u. put s u (way (x ∷ c) ++ p) b) (plugged_on x c t e)
@@ -108,7 +108,7 @@ module _ {A : Type 0} (s : Strands A) where
   passed_on (on_right k b n l) c h = h.1
 
   -- the strand that is run is the leftmost one
-  pub leftmost_plugged : (c : List (Branch A)) (t : StrandTree A) (p : List Turn) → HasPassed c → ended s t ≡ None → leftmost s t ≡ Some p → leftmost s (plugged c t) ≡ Some (way c ++ p)
+  pub leftmost_plugged : (c : List (Branch A)) (t : StrandTree A) (p : List Turn) → HasPassed c → state_at_end s t ≡ None → leftmost s t ≡ Some p → leftmost s (plugged c t) ≡ Some (way c ++ p)
   leftmost_plugged [] t p h e f = f
   leftmost_plugged (x ∷ c) t p h e f =
       ap (leftmost s) (plugged_on x c t e)

@@ -3,7 +3,7 @@ use Rattle.std.proofs.Common.{◌≡◌, ℕ, zero, suc, ◌<◌, ◌≤◌, ref
 use Rattle.cw_strand.specs.declared.want.Want.{Want}
 use Rattle.cw_strand.specs.declared.want.Want.TheVariants.{Fork}
 use Rattle.cw_strand.specs.Strands.{Strands, IsDeep, is_over, wants_fork}
-use Rattle.cw_serial.specs.StrandTree.{StrandTree, stands, waits, ended, meet, run_on, goes_on}
+use Rattle.cw_serial.specs.StrandTree.{StrandTree, stands, waits, state_at_end, meet, run_on, goes_on}
 
 pub fork_want : (w : Want) → wants_fork w ≡ true → w ≡ Fork
 fork_want Fork e = refl
@@ -28,30 +28,30 @@ module _ {A : Type 0} (s : Strands A) where
   meet_by go k l r (Some x) None = refl
   meet_by go k l r (Some x) (Some y) = refl
 
-  pub meet_is : (go : ℕ → A → StrandTree A) (k : ℕ) (l r : StrandTree A) → meet s go k l r ≡ met go k l r (ended s l) (ended s r)
-  meet_is go k l r = meet_by go k l r (ended s l) (ended s r)
+  pub meet_is : (go : ℕ → A → StrandTree A) (k : ℕ) (l r : StrandTree A) → meet s go k l r ≡ met go k l r (state_at_end s l) (state_at_end s r)
+  meet_is go k l r = meet_by go k l r (state_at_end s l) (state_at_end s r)
 
   -- where the left strand has not ended, or the right one
-  pub meet_left : (go : ℕ → A → StrandTree A) (k : ℕ) (l r : StrandTree A) → ended s l ≡ None → meet s go k l r ≡ waits k l r
-  meet_left go k l r e = meet_is go k l r ∙ ap (λ o. met go k l r o (ended s r)) e
+  pub meet_left : (go : ℕ → A → StrandTree A) (k : ℕ) (l r : StrandTree A) → state_at_end s l ≡ None → meet s go k l r ≡ waits k l r
+  meet_left go k l r e = meet_is go k l r ∙ ap (λ o. met go k l r o (state_at_end s r)) e
 
   met_right : (go : ℕ → A → StrandTree A) (k : ℕ) (l r : StrandTree A) (o : Option A) → met go k l r o None ≡ waits k l r
   met_right go k l r None = refl
   met_right go k l r (Some x) = refl
 
-  pub meet_right : (go : ℕ → A → StrandTree A) (k : ℕ) (l r : StrandTree A) → ended s r ≡ None → meet s go k l r ≡ waits k l r
-  meet_right go k l r e = meet_is go k l r ∙ (ap (met go k l r (ended s l)) e ∙ met_right go k l r (ended s l))
+  pub meet_right : (go : ℕ → A → StrandTree A) (k : ℕ) (l r : StrandTree A) → state_at_end s r ≡ None → meet s go k l r ≡ waits k l r
+  meet_right go k l r e = meet_is go k l r ∙ (ap (met go k l r (state_at_end s l)) e ∙ met_right go k l r (state_at_end s l))
 
-  pub meet_both : (go : ℕ → A → StrandTree A) (k : ℕ) (l r : StrandTree A) (x y : A) → ended s l ≡ Some x → ended s r ≡ Some y → meet s go k l r ≡ go k (s.joined y x)
-  meet_both go k l r x y e f = meet_is go k l r ∙ (ap (λ o. met go k l r o (ended s r)) e ∙ ap (met go k l r (Some x)) f)
+  pub meet_both : (go : ℕ → A → StrandTree A) (k : ℕ) (l r : StrandTree A) (x y : A) → state_at_end s l ≡ Some x → state_at_end s r ≡ Some y → meet s go k l r ≡ go k (s.joined y x)
+  meet_both go k l r x y e f = meet_is go k l r ∙ (ap (λ o. met go k l r o (state_at_end s r)) e ∙ ap (met go k l r (Some x)) f)
 
   met_same : (go run : ℕ → A → StrandTree A) (k : ℕ) (l r : StrandTree A) (o q : Option A) → ((x y : A) → q ≡ Some y → go k (s.joined y x) ≡ run k (s.joined y x)) → met go k l r o q ≡ met run k l r o q
   met_same go run k l r None q same = refl
   met_same go run k l r (Some x) None same = refl
   met_same go run k l r (Some x) (Some y) same = same x y refl
 
-  meet_same : (go run : ℕ → A → StrandTree A) (k : ℕ) (l r : StrandTree A) → ((x y : A) → ended s r ≡ Some y → go k (s.joined y x) ≡ run k (s.joined y x)) → meet s go k l r ≡ meet s run k l r
-  meet_same go run k l r same = meet_is go k l r ∙ (met_same go run k l r (ended s l) (ended s r) same ∙ sym (meet_is run k l r))
+  meet_same : (go run : ℕ → A → StrandTree A) (k : ℕ) (l r : StrandTree A) → ((x y : A) → state_at_end s r ≡ Some y → go k (s.joined y x) ≡ run k (s.joined y x)) → meet s go k l r ≡ meet s run k l r
+  meet_same go run k l r same = meet_is go k l r ∙ (met_same go run k l r (state_at_end s l) (state_at_end s r) same ∙ sym (meet_is run k l r))
 
   -- ## Levels
 
@@ -62,7 +62,7 @@ module _ {A : Type 0} (s : Strands A) where
   run_forks : (n k : ℕ) (a : A) → s.want a ≡ Fork → run_on s (suc n) k a ≡ meet s (run_on s n) (suc k) (run_on s n 0 (s.left a)) (run_on s n 0 (s.right a))
   run_forks n k a e = ap (λ b. elim b [ false ↦ stands k a | true ↦ meet s (run_on s n) (suc k) (run_on s n 0 (s.left a)) (run_on s n 0 (s.right a)) ]) (ap wants_fork e)
 
-  pub ended_stands : (k : ℕ) (a : A) → is_over (s.want a) ≡ true → ended s (stands k a) ≡ Some a
+  pub ended_stands : (k : ℕ) (a : A) → is_over (s.want a) ≡ true → state_at_end s (stands k a) ≡ Some a
   ended_stands k a e = ap (λ b. cond b (Some a) None) e
 
   -- what a standing strand has ended with is the strand itself
@@ -70,7 +70,7 @@ module _ {A : Type 0} (s : Strands A) where
   ended_by true a y e = cc
   ended_by false a y e = absurd (cc e)
 
-  pub ended_itself : (k : ℕ) (a y : A) → ended s (stands k a) ≡ Some y → a ≡ y
+  pub ended_itself : (k : ℕ) (a y : A) → state_at_end s (stands k a) ≡ Some y → a ≡ y
   ended_itself k a y e = ended_by (is_over (s.want a)) a y e
 
   -- a strand that wants no fork goes nowhere
@@ -82,8 +82,8 @@ module _ {A : Type 0} (s : Strands A) where
 
   module _ (deep : IsDeep s) where
     -- what strands have ended with is no deeper than where they went on from
-    ended_met : (n : ℕ) → ((k : ℕ) (b y : A) → ended s (run_on s n k b) ≡ Some y → s.depth y ≤ s.depth b) → (k : ℕ) (l : StrandTree A) (a y : A) (o q : Option A) → s.want a ≡ Fork → ended s (run_on s n 0 (s.right a)) ≡ q
-        → ended s (met (run_on s n) (suc k) l (run_on s n 0 (s.right a)) o q) ≡ Some y → s.depth y ≤ s.depth a
+    ended_met : (n : ℕ) → ((k : ℕ) (b y : A) → state_at_end s (run_on s n k b) ≡ Some y → s.depth y ≤ s.depth b) → (k : ℕ) (l : StrandTree A) (a y : A) (o q : Option A) → s.want a ≡ Fork → state_at_end s (run_on s n 0 (s.right a)) ≡ q
+        → state_at_end s (met (run_on s n) (suc k) l (run_on s n 0 (s.right a)) o q) ≡ Some y → s.depth y ≤ s.depth a
     ended_met n more k l a y None q w r e = absurd (cc e)
     ended_met n more k l a y (Some x) None w r e = absurd (cc e)
     ended_met n more k l a y (Some x) (Some z) w r e =
@@ -93,18 +93,18 @@ module _ {A : Type 0} (s : Strands A) where
         let four : s.depth (s.right a) < s.depth a = deep.right a w in
         omega arith
 
-    ended_below : (n k : ℕ) (a y : A) → ended s (run_on s n k a) ≡ Some y → s.depth y ≤ s.depth a
+    ended_below : (n k : ℕ) (a y : A) → state_at_end s (run_on s n k a) ≡ Some y → s.depth y ≤ s.depth a
     ended_below zero k a y e = omega (arith, ap s.depth (ended_itself k a y e))
     ended_below (suc n) k a y e = by (wants_fork (s.want a)) refl (λ k b y e. ended_below n k b y e) where
-      by : (b : Bool) → wants_fork (s.want a) ≡ b → ((k : ℕ) (b y : A) → ended s (run_on s n k b) ≡ Some y → s.depth y ≤ s.depth b) → s.depth y ≤ s.depth a
-      by false q more = omega (arith, ap s.depth (ended_itself k a y (sym (ap (ended s) (run_stays (suc n) k a q)) ∙ e)))
+      by : (b : Bool) → wants_fork (s.want a) ≡ b → ((k : ℕ) (b y : A) → state_at_end s (run_on s n k b) ≡ Some y → s.depth y ≤ s.depth b) → s.depth y ≤ s.depth a
+      by false q more = omega (arith, ap s.depth (ended_itself k a y (sym (ap (state_at_end s) (run_stays (suc n) k a q)) ∙ e)))
       by true q more =
           let w = fork_want (s.want a) q in
           let l = run_on s n 0 (s.left a) in
           let r = run_on s n 0 (s.right a) in
-          ended_met n more k l a y (ended s l) (ended s r) w refl (sym (ap (ended s) (run_forks n k a w ∙ meet_is (run_on s n) (suc k) l r)) ∙ e)
+          ended_met n more k l a y (state_at_end s l) (state_at_end s r) w refl (sym (ap (state_at_end s) (run_forks n k a w ∙ meet_is (run_on s n) (suc k) l r)) ∙ e)
 
-    pub ended_depth : (k : ℕ) (a y : A) → ended s (goes_on s k a) ≡ Some y → s.depth y ≤ s.depth a
+    pub ended_depth : (k : ℕ) (a y : A) → state_at_end s (goes_on s k a) ≡ Some y → s.depth y ≤ s.depth a
     ended_depth k a y e = ended_below (s.depth a) k a y e
 
     no_fork : (a : A) → s.depth a ≤ 0 → wants_fork (s.want a) ≡ false

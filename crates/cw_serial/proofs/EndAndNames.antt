@@ -8,7 +8,7 @@ use Rattle.cw_strand.specs.Strands.{Strands, is_over}
 use Rattle.cw_tree.specs.declared.picks.Name.{Name}
 use Rattle.cw_tree.specs.declared.picks.Turn.{Turn}
 use Rattle.cw_serial.specs.declared.table.Table.{Table}
-use Rattle.cw_serial.specs.StrandTree.{StrandTree, stands, waits, ended, at}
+use Rattle.cw_serial.specs.StrandTree.{StrandTree, stands, waits, state_at_end, at}
 use Rattle.cw_serial.specs.Machine.{steps_down}
 use Rattle.cw_serial.specs.Spots.{Spot, standing, waiting, spot}
 use Rattle.cw_serial.specs.TableInMemory.{left_name, right_name, IsSpotAt, Holds, strand_in, strand_in_row, want_of, over_by, over_at}
@@ -27,7 +27,7 @@ module _ {S A : Type 0} (s : Strands A) (state : S → A) (table : Table S) (tre
   over_some true a = refl
   over_some false a = refl
 
-  root_by : (t : StrandTree A) → tree ≡ t → over_at s state table.rows.items 0 ≡ is_some (ended s t)
+  root_by : (t : StrandTree A) → tree ≡ t → over_at s state table.rows.items 0 ≡ is_some (state_at_end s t)
   root_by (stands k a) e =
       let (row, here) = row_named state table tree holds 0 [] root_named in
       let n = length row.forks.items in
@@ -40,7 +40,7 @@ module _ {S A : Type 0} (s : Strands A) (state : S → A) (table : Table S) (tre
       ap (λ o. over_by (want_of s state (strand_in_row o))) here ∙ ap (λ pl. over_by (want_of s state (strand_in pl))) place
 
   -- the root has ended in memory where it has in the tree
-  pub root_ended : over_at s state table.rows.items 0 ≡ is_some (ended s tree)
+  pub root_ended : over_at s state table.rows.items 0 ≡ is_some (state_at_end s tree)
   root_ended = root_by tree refl
 
   earlier : (j : ℕ) (n : Name) (f : ℕ) → slice_get table.names.items (suc j) ≡ Some n → 0 < f → f ≤ n.fork → (l : ℕ) × (r : ℕ) × (slice_get table.names.items l ≡ Some (left_name n.parent f)) × (slice_get table.names.items r ≡ Some (right_name n.parent f))

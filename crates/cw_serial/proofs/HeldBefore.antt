@@ -11,7 +11,7 @@ use Rattle.cw_code.specs.declared.Back.{Back}
 use Rattle.cw_job.specs.Memory.{value_at}
 use Rattle.cw_tree.specs.Nodes.{below}
 use Rattle.cw_serial.specs.declared.undo.Write.{Write}
-use Rattle.cw_serial.specs.Wants.{was_written, put_back}
+use Rattle.cw_serial.specs.Wants.{was_written, put_back_since}
 use Rattle.cw_serial.specs.InMemory.{undone, since_of, held_before}
 use Rattle.cw_serial.proofs.MapsInOrder.{entries_in_order}
 
@@ -80,7 +80,7 @@ pub puts_next : (list next all : List Back) (b : Back) (left rest : List (ℕ ×
 puts_next list next all b left rest more is so_far = ap (λ xs. xs ++ map back_of rest) more ∙ (append_assoc list (b ∷ []) (map back_of rest) ∙ (ap (λ es. list ++ map back_of es) (sym is) ∙ so_far))
 
 -- what such a map has in order is what is put back
-pub puts_back : (ws : List Write) (memory : List ℤ) (m : BTreeMap ℕ ℤ) → IsOrdered nat_cmp m → ((c : ℕ) → get nat_cmp m c ≡ held_below (length memory) ws c) → map back_of m.entries ≡ put_back (since_of ws memory)
+pub puts_back : (ws : List Write) (memory : List ℤ) (m : BTreeMap ℕ ℤ) → IsOrdered nat_cmp m → ((c : ℕ) → get nat_cmp m c ≡ held_below (length memory) ws c) → map back_of m.entries ≡ put_back_since (since_of ws memory)
 puts_back ws memory m ordered has =
     entries_in_order (value_at (undone ws memory)) (was_written (since_of ws memory)) (length memory) m ordered (λ c. has c ∙ by c (nat_lt c (length memory)) refl) (λ c v. back_of (c, v))
     ∙ ap (λ n. map (λ c. back_of (c, value_at (undone ws memory) c)) (filter (was_written (since_of ws memory)) (below n))) (sym (length-undone ws memory)) where

@@ -1,42 +1,20 @@
 -- A map of numbers, as the list of its entries by rising number.
-use Rattle.std.proofs.Common.{◌≡◌, ◌<◌, ℕ, List, [], ◌∷◌, map, Bool, true, false, cond, Some, None, refl, ap, sym, ◌∙◌, arith, inl, inr}
-use Rattle.std.specs.Prelude.{filter, nat_lt, ◌&&◌, ◌⊎◌}
-use Rattle.std.specs.Map.{lookup, keys_of}
-use Rattle.std.specs.BTreeMap.{BTreeMap, get, is_at, keys, IsOrdered}
+use Rattle.std.proofs.Common.{◌≡◌, ◌<◌, ℕ, map, Bool, true, false, cond, Some, None, refl, ap, sym, ◌∙◌, arith}
+use Rattle.std.specs.Prelude.{filter, nat_lt, ◌&&◌}
+use Rattle.std.specs.BTreeMap.{BTreeMap, get, keys, IsOrdered}
 use Rattle.std.specs.Ordering.{nat_cmp}
-use Rattle.std.specs.declared.cmp.Ordering.TheVariants.{Less}
 use Rattle.std.specs.Cmp.{nat_cmp_total}
-use Rattle.std.specs.List.Sorted.{IsStrictlySortedBy}
 use Rattle.std.proofs.lemmas.Bool.{and_parts, and_from, ltb-true, lt-ltb}
-use Rattle.std.proofs.lemmas.Bool.Decides.{nat_tests}
-use Rattle.std.proofs.lemmas.Map.Keys.{sorted_head, sorted_tail}
 use Rattle.std.proofs.lemmas.Simd.{map-map}
 use Rattle.std.proofs.lemmas.Map.Views.{All-found}
-use Rattle.std.proofs.lemmas.List.Elements.{All-from_recursion, All-weaker}
+use Rattle.std.proofs.lemmas.List.Elements.{All-weaker}
 use Rattle.cw_tree.specs.Nodes.{below}
 use Rattle.cw_tree.proofs.Lists.{In}
 use Rattle.cw_tree.proofs.Members.{in_below, below_in, in_filter, filter_in, in_map, all_at, map_same}
-use Rattle.cw_tree.proofs.Rising.{Rises, below_rises, rises_filter, rises_same}
-
--- numbers that tie are the same
-at_same : (q c : ℕ) → is_at (nat_cmp q) c ≡ true → q ≡ c
-at_same q c h = grind (arith, nat_tests)
-
--- the keys of a map rise
-rises_sorted : (ks : List ℕ) → IsStrictlySortedBy nat_cmp ks → Rises ks
-rises_sorted [] h = tt
-rises_sorted (k ∷ ks) h =
-    ((λ y i. let less : nat_cmp k y ≡ Less = all_at (λ z. nat_cmp k z ≡ Less) ks (All-from_recursion _ ks (sorted_head nat_cmp k ks h)) y i in grind (arith, nat_tests)), rises_sorted ks (sorted_tail nat_cmp k ks h))
+use Rattle.cw_tree.proofs.Rising.{below_rises, rises_filter, rises_same}
+use Rattle.cw_tree.proofs.Maps.{in_keys, rises_sorted}
 
 module _ {X : Type 0} where
-  -- what is found is among the keys
-  in_keys : (q : ℕ) (v : X) (es : List (ℕ × X)) → lookup (is_at (nat_cmp q)) es ≡ Some v → In q (keys_of es)
-  in_keys q v [] h = absurd (cc h)
-  in_keys q v (e ∷ es) h = by (is_at (nat_cmp q) e.0) (at_same q e.0) (in_keys q v es) h where
-    by : (b : Bool) → (b ≡ true → q ≡ e.0) → (lookup (is_at (nat_cmp q)) es ≡ Some v → In q (keys_of es)) → cond b (Some e.1) (lookup (is_at (nat_cmp q)) es) ≡ Some v → (q ≡ e.0) ⊎ In q (keys_of es)
-    by true same later f = inl (same refl)
-    by false same later f = inr (later f)
-
   module _ (value : ℕ → X) (p : ℕ → Bool) (n : ℕ) (m : BTreeMap ℕ X) (ordered : IsOrdered nat_cmp m) (has : (c : ℕ) → get nat_cmp m c ≡ cond (nat_lt c n && p c) (Some (value c)) None) where
     -- an entry is at a number below the bound that passes, with its value
     entry_is : (e : ℕ × X) → get nat_cmp m e.0 ≡ Some e.1 → (e.0 < n) × (p e.0 ≡ true) × (value e.0 ≡ e.1)

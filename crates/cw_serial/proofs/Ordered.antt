@@ -14,7 +14,7 @@ use Rattle.cw_serial.specs.Machine.{steps_down, root_turns, is_root}
 use Rattle.cw_job.specs.Room.Strands.{StrandState, state_of, strands_of_job}
 use Rattle.cw_serial.specs.Spots.{turn_to, Spot, spot}
 use Rattle.cw_serial.specs.TableInMemory.{StrandsAreNumbered, number_of, side_of, started_of, started_at}
-use Rattle.cw_serial.specs.Orders.{SameStrand, AreKnown, root_number, known_at, parent_number, LeadDown, StandsNowhere}
+use Rattle.cw_serial.specs.Orders.{SameStrand, AreKnown, root_number, known_number, parent_number, LeadDown, StandsNowhere}
 use Rattle.cw_serial.proofs.Numbers.{turn_of, turns_last, turns_step, turns_down}
 use Rattle.cw_serial.proofs.Numbered.{set_here, set_elsewhere, turns_unique, turns_of_left, turns_of_right}
 use Rattle.cw_serial.proofs.Replaced.{at_spot, at_is}
@@ -36,7 +36,7 @@ module _ (order : List Name) where
             let same : l.name ≡ x = (let e : Some l.name ≡ Some x = sym l.here ∙ here in cc) in
             (l.above, ap (steps_down order) (sym (ap (λ (v : Name). v.parent) same ∙ parent)) ∙ l.up)
 
-  root_known : (numbers : List (Option ℕ)) (q : List Turn) → steps_down order 0 ≡ Some q → (i : ℕ) × (known_at order numbers 0 ≡ Some i)
+  root_known : (numbers : List (Option ℕ)) (q : List Turn) → steps_down order 0 ≡ Some q → (i : ℕ) × (known_number order numbers 0 ≡ Some i)
   root_known numbers q h = by (slice_get order 0) h where
     by : (o : Option Name) → root_turns o ≡ Some q → (i : ℕ) × (root_number o ≡ Some i)
     by None e = absurd cc
@@ -45,11 +45,11 @@ module _ (order : List Name) where
       test true f = (0, refl)
       test false f = absurd cc
 
-  pub up_none : (numbers : List (Option ℕ)) (from n : ℕ) (todo : List ℕ) → known_at order numbers from ≡ None → parent_number (slice_get order from) from ≡ None → LeadDown order from todo n → (q : List Turn) → steps_down order n ≡ Some q → ⊥
+  pub up_none : (numbers : List (Option ℕ)) (from n : ℕ) (todo : List ℕ) → known_number order numbers from ≡ None → parent_number (slice_get order from) from ≡ None → LeadDown order from todo n → (q : List Turn) → steps_down order n ≡ Some q → ⊥
   up_none numbers from n todo unknown no_parent down q up =
       let (z, uz) = way_up from n todo q down up in
       by from z unknown no_parent uz where
-        by : (b : ℕ) (z : List Turn) → known_at order numbers b ≡ None → parent_number (slice_get order b) b ≡ None → steps_down order b ≡ Some z → ⊥
+        by : (b : ℕ) (z : List Turn) → known_number order numbers b ≡ None → parent_number (slice_get order b) b ≡ None → steps_down order b ≡ Some z → ⊥
         by zero z unknown no_parent uz = let (i, known) = root_known numbers z uz in let e : Some i ≡ None = sym known ∙ unknown in cc
         by (suc b) z unknown no_parent uz =
             let l = turns_last order b z uz in

@@ -16,7 +16,7 @@ use Rattle.cw_serial.specs.StrandTree.{StrandTree, put}
 use Rattle.cw_serial.specs.Wants.{Since, answer_to, memory_after, outputs_after, blocks_after, since_after}
 use Rattle.cw_serial.specs.Machine.{Begun, Machine, same_name, steps_down, may_pick, pick_at, pick}
 use Rattle.cw_serial.specs.Spots.{IsSettled}
-use Rattle.cw_serial.specs.TableInMemory.{Holds, IsFront, Answers, SettlesTo, strand_in_row, want_of, want_at}
+use Rattle.cw_serial.specs.TableInMemory.{Holds, IsFront, AnswersStrand, SettlesTo, strand_in_row, want_of, want_at}
 use Rattle.cw_serial.specs.InMemory.{AreBegun, AreSince, begun_after, IsMachine, IsDone, DoesWant, Picks}
 use Rattle.cw_serial.proofs.Replaced.{at_is, at_spot}
 use Rattle.cw_serial.proofs.Answered.{StandsAt, stands_at, nobody_at, strand_is, answered_comes}
@@ -58,13 +58,13 @@ module _ (job : Job) (old : Code) (m : Machine StrandState) (is : IsMachine job 
         }) (blocks_after (record { strand = q }) (λ (b : Begun). same_name b.strand q) v m.begun)) None) here.wants
 
     -- the want was done, the strand answered, and all settled
-    pub picked : (given : Given) (mid new : Code) (table : Table Standing) → may_pick m.begun q ≡ true → IsDone w n old given mid → Answers s state_of mid.strands n given table
+    pub picked : (given : Given) (mid new : Code) (table : Table Standing) → may_pick m.begun q ≡ true → IsDone w n old given mid → AnswersStrand s state_of mid.strands n given table
         → new.memory ≡ mid.memory → new.outputs ≡ mid.outputs → new.undo ≡ mid.undo
         → ((t : StrandTree StrandState) → SettlesTo s state_of table (n ∷ []) t → Holds state_of new.strands t × IsSettled s t)
         → IsFront table.names.items new.strands.names.items
         → Picks job m (pick s m q) true new
     picked given mid new table may done answers memory outputs undo settles front =
-        let answered : Answers s state_of old.strands n given table = subst (λ t. Answers s state_of t n given table) done.strands answers in
+        let answered : AnswersStrand s state_of old.strands n given table = subst (λ t. AnswersStrand s state_of t n given table) done.strands answers in
         let same : state_of answered.strand ≡ state_of here.strand = strand_is s state_of old.strands table n given answered m.strands is.strands is.settled q up here.forks (state_of here.strand) here.here in
         let given_is : given ≡ answer_to w m.memory m.since = done.given_is m.since is.since ∙ ap (λ v. answer_to w v m.since) (sym is.memory) in
         let (begun_now, some, are) = alike_some old.strands.names.items mid.undo.begun blocks (subst (λ o. AreAlike old.strands.names.items o blocks) done.undo.begun alike) in

@@ -2,7 +2,7 @@
 use Rattle.std.proofs.Common.{◌≡◌, ℕ, ◌==◌, refl, ap, sym, ◌∙◌, if◌then◌else◌, Bool, true, false, Option, Some, None, List, [], ◌∷◌, ◌++◌}
 use Rattle.cw_tree.specs.declared.picks.Turn.{Turn}
 use Rattle.cw_strand.specs.Strands.{Strands, is_over, wants_fork}
-use Rattle.cw_serial.specs.StrandTree.{StrandTree, stands, waits, side_by, ended, meet, goes_on, at, put}
+use Rattle.cw_serial.specs.StrandTree.{StrandTree, stands, waits, side_by, state_at_end, meet, goes_on, at, put}
 use Rattle.cw_serial.specs.Spots.{turn_to, Spot, standing, waiting, spot, settle, Apart, IsSettled}
 use Rattle.cw_serial.proofs.Sides.{side_same, side_left, side_right, side_none, Way, to_left, to_right, nowhere, way}
 use Rattle.cw_serial.proofs.Settled.{settled_stays}
@@ -180,7 +180,7 @@ module _ {A : Type 0} (s : Strands A) where
   NoJoins t = (p : List Turn) (k i j : ℕ) (x y : A) → spot t p ≡ Some (waiting k) → spot t (p ++ turn_to k false ∷ []) ≡ Some (standing i x) → spot t (p ++ turn_to k true ∷ []) ≡ Some (standing j y)
       → is_over (s.want x) ≡ true → is_over (s.want y) ≡ true → ⊥
 
-  ended_spot : (t : StrandTree A) (x : A) → ended s t ≡ Some x → (i : ℕ) × (spot t [] ≡ Some (standing i x)) × (is_over (s.want x) ≡ true)
+  ended_spot : (t : StrandTree A) (x : A) → state_at_end s t ≡ Some x → (i : ℕ) × (spot t [] ≡ Some (standing i x)) × (is_over (s.want x) ≡ true)
   ended_spot (waits k l r) x h = absurd cc
   ended_spot (stands k a) x h = by (is_over (s.want a)) refl h where
     by : (b : Bool) → is_over (s.want a) ≡ b → (if b then Some a else None) ≡ Some x → (i : ℕ) × (spot (stands k a) [] ≡ Some (standing i x)) × (is_over (s.want x) ≡ true)
@@ -197,7 +197,7 @@ module _ {A : Type 0} (s : Strands A) where
   settled_by (waits k l r) forks joins = (
     settled_by l (λ p i a e. forks (turn_to k false ∷ p) i a (spot_left k l r p ∙ e)) (λ p n i j x y e f g. joins (turn_to k false ∷ p) n i j x y (spot_left k l r p ∙ e) (spot_left k l r (p ++ turn_to n false ∷ []) ∙ f) (spot_left k l r (p ++ turn_to n true ∷ []) ∙ g)),
     settled_by r (λ p i a e. forks (turn_to k true ∷ p) i a (spot_right k l r p ∙ e)) (λ p n i j x y e f g. joins (turn_to k true ∷ p) n i j x y (spot_right k l r p ∙ e) (spot_right k l r (p ++ turn_to n false ∷ []) ∙ f) (spot_right k l r (p ++ turn_to n true ∷ []) ∙ g)),
-    apart_by (ended s l) (ended s r) (λ x y e f.
+    apart_by (state_at_end s l) (state_at_end s r) (λ x y e f.
         let (i, hl, ol) = ended_spot l x e in
         let (j, hr, or) = ended_spot r y f in
         joins [] k i j x y refl (spot_left k l r [] ∙ hl) (spot_right k l r [] ∙ hr) ol or),
@@ -209,7 +209,7 @@ module _ {A : Type 0} (s : Strands A) where
   settled_no_forks (waits n l r) d [] k a h = absurd cc
   settled_no_forks (waits n l r) d (x ∷ p) k a h = spot_side n l r x p (wants_fork (s.want a) ≡ false) (standing k a) h (λ e f. settled_no_forks l d.0 p k a f) (λ e f. settled_no_forks r d.1 p k a f)
 
-  ended_here : (t : StrandTree A) (i : ℕ) (x : A) → spot t [] ≡ Some (standing i x) → is_over (s.want x) ≡ true → ended s t ≡ Some x
+  ended_here : (t : StrandTree A) (i : ℕ) (x : A) → spot t [] ≡ Some (standing i x) → is_over (s.want x) ≡ true → state_at_end s t ≡ Some x
   ended_here (waits k l r) i x h o = absurd cc
   ended_here (stands k a) i x h o =
       let same : a ≡ x = cc in
@@ -222,7 +222,7 @@ module _ {A : Type 0} (s : Strands A) where
       let e : n ≡ k = cc in
       let el = ended_here l i x (sym (spot_left n l r []) ∙ (ap (λ m. spot (waits n l r) (turn_to m false ∷ [])) e ∙ hl)) ol in
       let er = ended_here r j y (sym (spot_right n l r []) ∙ (ap (λ m. spot (waits n l r) (turn_to m true ∷ [])) e ∙ hr)) or in
-      let apart : Apart s (ended s l) (ended s r) = d.2 in
+      let apart : Apart s (state_at_end s l) (state_at_end s r) = d.2 in
       rw (el, er) at apart
   settled_no_joins (waits n l r) d (z ∷ p) k i j x y h hl hr ol or =
       spot_side n l r z p ⊥ (waiting k) h

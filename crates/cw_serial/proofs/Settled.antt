@@ -2,7 +2,7 @@
 use Rattle.std.proofs.Common.{◌≡◌, ℕ, suc, refl, ap, sym, ◌∙◌, true, Option, Some, None}
 use Rattle.cw_strand.specs.declared.want.Want.TheVariants.{Fork}
 use Rattle.cw_strand.specs.Strands.{Strands, IsDeep, is_over}
-use Rattle.cw_serial.specs.StrandTree.{StrandTree, stands, waits, ended, meet, goes_on}
+use Rattle.cw_serial.specs.StrandTree.{StrandTree, stands, waits, state_at_end, meet, goes_on}
 use Rattle.cw_serial.specs.Spots.{settle, Apart, IsSettled}
 use Rattle.cw_serial.proofs.Deep.{met, meet_is, meet_both, goes_nowhere, goes_over, goes_forking, ended_stands}
 
@@ -18,7 +18,7 @@ module _ {A : Type 0} (s : Strands A) where
   settled_stays (waits k l r) h =
       ap (λ x. meet s (goes_on s) k x (settle s r)) (settled_stays l h.0)
       ∙ (ap (meet s (goes_on s) k l) (settled_stays r h.1)
-      ∙ (meet_is s (goes_on s) k l r ∙ apart_met (goes_on s) k l r (ended s l) (ended s r) h.2))
+      ∙ (meet_is s (goes_on s) k l r ∙ apart_met (goes_on s) k l r (state_at_end s l) (state_at_end s r) h.2))
 
   module _ (deep : IsDeep s) where
     -- a fork, and a join, leave what the tree comes to

@@ -4,7 +4,7 @@ use Rattle.std.specs.Prelude.{option_map, All}
 use Rattle.cw_strand.specs.declared.want.Want.{Want}
 use Rattle.cw_strand.specs.declared.want.Want.TheVariants.{Begin, End, Cancel, Fork, Sync, Done, Fault}
 use Rattle.cw_strand.specs.Strands.{Strands, IsDeep, is_over, wants_fork, takes_answer, IsAnswer, own_after, MayWant, GoesTo, stays, answered, joins, Reached, of_main, of_left, of_right, Closes}
-use Rattle.cw_serial.specs.StrandTree.{stands, ended, meet, goes_on, at, put}
+use Rattle.cw_serial.specs.StrandTree.{stands, state_at_end, meet, goes_on, at, put}
 use Rattle.cw_serial.specs.Wants.{Since, answer_to, memory_after, outputs_after, blocks_after, since_after}
 use Rattle.cw_serial.specs.Machine.{Begun, Machine, same_name, does, pick_at, pick}
 use Rattle.cw_serial.specs.DepthFirst.{leftmost}
@@ -163,8 +163,8 @@ module _ {A : Type 0} (s : Strands A) where
         }
 
     -- where the strand that is run stands
-    stands_here : (w : Worker A) → wants_fork (s.want w.strand) ≡ false → is_over (s.want w.strand) ≡ false → ended s (goes_on s w.forks w.strand) ≡ None
-    stands_here w f o = ap (ended s) (goes_nowhere s w.forks w.strand f) ∙ ap (λ b. cond b (Some w.strand) None) o
+    stands_here : (w : Worker A) → wants_fork (s.want w.strand) ≡ false → is_over (s.want w.strand) ≡ false → state_at_end s (goes_on s w.forks w.strand) ≡ None
+    stands_here w f o = ap (state_at_end s) (goes_nowhere s w.forks w.strand f) ∙ ap (λ b. cond b (Some w.strand) None) o
 
     pub at_here : (w : Worker A) → wants_fork (s.want w.strand) ≡ false → is_over (s.want w.strand) ≡ false → at s (machine_at w).strands (way w.branches) ≡ Some w.strand
     at_here w f o =

@@ -114,9 +114,9 @@ pub record BlocksFollow (w : Want) (n : ℕ) (memory : List ℤ) (old new : Undo
   pub since : (before : List Since) → AreSince old memory before → AreSince new (memory_after w memory) (since_after w memory before)
 
 -- they are; or the want cannot be done, and nothing changed
-abbrev pub Follows : Want → ℕ → List ℤ → Undo → Bool → Undo → Type 0
-Follows w n memory old true new = BlocksFollow w n memory old new
-Follows w n memory old false new = (begun_after w n old ≡ None) × (new ≡ old)
+abbrev pub UndoFollows : Want → ℕ → List ℤ → Undo → Bool → Undo → Type 0
+UndoFollows w n memory old true new = BlocksFollow w n memory old new
+UndoFollows w n memory old false new = (begun_after w n old ≡ None) × (new ≡ old)
 
 -- A want of that strand was done, and this is for the strand.
 pub record IsDone (w : Want) (n : ℕ) (old : Code) (given : Given) (new : Code) : Type 0 where

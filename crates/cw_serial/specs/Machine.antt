@@ -9,7 +9,7 @@ use Rattle.cw_tree.specs.declared.picks.Turn.{Turn}
 use Rattle.cw_tree.specs.declared.picks.Picks.{Picks}
 use Rattle.cw_serial.specs.declared.ends.SerialEnd.{SerialEnd}
 use Rattle.cw_serial.specs.declared.ends.SerialEnd.TheVariants as last
-use Rattle.cw_serial.specs.StrandTree.{StrandTree, at, put, goes_on, ended}
+use Rattle.cw_serial.specs.StrandTree.{StrandTree, at, put, goes_on, state_at_end}
 use Rattle.cw_serial.specs.Wants.{Since, answer_to, memory_after, outputs_after, blocks_after, since_after}
 
 -- a begun block, by the name of the strand that began it
@@ -73,7 +73,7 @@ module _ {A : Type 0} (s : Strands A) where
   initial memory = record { memory = memory; outputs = []; strands = goes_on s 0 s.start; begun = []; since = [] }
 
   abbrev pub has_ended : Machine A → Bool
-  has_ended m = is_some (ended s m.strands)
+  has_ended m = is_some (state_at_end s m.strands)
 
 -- ## Names
 

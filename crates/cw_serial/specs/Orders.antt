@@ -33,9 +33,9 @@ root_number None = None
 root_number (Some x) = if is_root x then Some 0 else None
 
 -- the number of a name's strand, as far as it is known
-abbrev pub known_at : List Name → List (Option ℕ) → ℕ → Option ℕ
-known_at order numbers zero = root_number (slice_get order 0)
-known_at order numbers (suc n) = known_of (slice_get numbers (suc n))
+abbrev pub known_number : List Name → List (Option ℕ) → ℕ → Option ℕ
+known_number order numbers zero = root_number (slice_get order 0)
+known_number order numbers (suc n) = known_of (slice_get numbers (suc n))
 
 abbrev pub parent_number : Option Name → ℕ → Option ℕ
 parent_number None n = None
@@ -49,7 +49,7 @@ LeadDown order from (a ∷ rest) n = (x : Name) × (slice_get order a ≡ Some x
 -- a name leads up to one whose strand is known; or it is none
 abbrev pub LeadsUp : List Name → List (Option ℕ) → ℕ → Option ℕ → List ℕ → Type 0
 LeadsUp order numbers n None todo = (q : List Turn) → steps_down order n ≡ Some q → ⊥
-LeadsUp order numbers n (Some i) todo = (from : ℕ) × (known_at order numbers from ≡ Some i) × LeadDown order from todo n
+LeadsUp order numbers n (Some i) todo = (from : ℕ) × (known_number order numbers from ≡ Some i) × LeadDown order from todo n
 
 -- no strand of that name stands in the machine
 abbrev pub StandsNowhere : List Name → ℕ → Code → Type 0

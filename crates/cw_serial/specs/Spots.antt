@@ -2,7 +2,7 @@
 use Rattle.std.specs.Prelude.{◌≡◌, ℕ, Bool, false, List, [], ◌∷◌, Option, Some, None}
 use Rattle.cw_tree.specs.declared.picks.Turn.{Turn}
 use Rattle.cw_strand.specs.Strands.{Strands, wants_fork}
-use Rattle.cw_serial.specs.StrandTree.{StrandTree, stands, waits, side_by, ended, meet, goes_on}
+use Rattle.cw_serial.specs.StrandTree.{StrandTree, stands, waits, side_by, state_at_end, meet, goes_on}
 
 -- the step to the left strand or the right one of a k-th fork
 abbrev pub turn_to : ℕ → Bool → Turn
@@ -33,4 +33,4 @@ module _ {A : Type 0} (s : Strands A) where
   -- No fork can be made and no join.
   abbrev pub IsSettled : StrandTree A → Type 0
   IsSettled (stands k a) = wants_fork (s.want a) ≡ false
-  IsSettled (waits k l r) = IsSettled l × IsSettled r × Apart (ended s l) (ended s r)
+  IsSettled (waits k l r) = IsSettled l × IsSettled r × Apart (state_at_end s l) (state_at_end s r)

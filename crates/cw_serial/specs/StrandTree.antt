@@ -18,13 +18,13 @@ side_by x k l r none = if x.fork == k then (if x.right then r else l) else none
 
 module _ {A : Type 0} (s : Strands A) where
   -- a strand that has come to its end
-  abbrev pub ended : StrandTree A → Option A
-  ended (stands k a) = if is_over (s.want a) then Some a else None
-  ended (waits k l r) = None
+  abbrev pub state_at_end : StrandTree A → Option A
+  state_at_end (stands k a) = if is_over (s.want a) then Some a else None
+  state_at_end (waits k l r) = None
 
   -- the two strands of a k-th fork; where both have ended, the strand that forked goes on
   abbrev pub meet : (ℕ → A → StrandTree A) → ℕ → (left right : StrandTree A) → StrandTree A
-  meet go k l r = elim (ended l) [ None ↦ waits k l r | Some x ↦ elim (ended r) [ None ↦ waits k l r | Some y ↦ go k (s.joined y x) ] ]
+  meet go k l r = elim (state_at_end l) [ None ↦ waits k l r | Some x ↦ elim (state_at_end r) [ None ↦ waits k l r | Some y ↦ go k (s.joined y x) ] ]
 
   -- a strand that made k forks makes its next ones, n levels of them
   abbrev pub run_on : ℕ → ℕ → A → StrandTree A

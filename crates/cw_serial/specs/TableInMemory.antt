@@ -152,7 +152,7 @@ module _ {S A : Type 0} (s : Strands A) (state : S → A) where
   over_at rows i = over_by (want_at rows i)
 
   -- a strand was answered
-  pub record Answers (old : Table S) (i : ℕ) (given : Given) (new : Table S) : Type 0 where
+  pub record AnswersStrand (old : Table S) (i : ℕ) (given : Given) (new : Table S) : Type 0 where
     pub strand : S
     pub answered : S
     pub former : Place S

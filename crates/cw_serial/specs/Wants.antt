@@ -21,13 +21,13 @@ abbrev pub was_written : Since → ℕ → Bool
 was_written x c = list_any (λ d. d == c) x.written
 
 -- each element that was written since the begin, by rising number, with the value that it had then
-abbrev pub put_back : Since → List Back
-put_back x = map (λ c. record { cell = c; value = value_at x.memory c }) (filter (was_written x) (below (length x.memory)))
+abbrev pub put_back_since : Since → List Back
+put_back_since x = map (λ c. record { cell = c; value = value_at x.memory c }) (filter (was_written x) (below (length x.memory)))
 
 -- what the innermost of the begun blocks puts back where it is given up
 abbrev pub given_up : List Since → List Back
 given_up [] = []
-given_up (x ∷ xs) = put_back x
+given_up (x ∷ xs) = put_back_since x
 
 abbrev pub with_write : ℕ → Since → Since
 with_write c x = record x { written = x.written ++ c ∷ [] }

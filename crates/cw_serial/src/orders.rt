@@ -17,7 +17,7 @@ impl<'n> Known<'n> {
     ghost use Rattle.cw_tree.specs.declared.picks.Name.{Name as Named};
     ghost use Rattle.cw_serial.specs.TableInMemory.{StrandsAreNumbered};
     ghost use Rattle.cw_serial.specs.InMemory.{names_in};
-    ghost use Rattle.cw_serial.specs.Orders.{AreKnown, SameStrand, known_at, parent_number, root_number, LeadsUp, LeadDown, Finds};
+    ghost use Rattle.cw_serial.specs.Orders.{AreKnown, SameStrand, known_number, parent_number, root_number, LeadsUp, LeadDown, Finds};
 
     /// Nothing is known yet.
     pub fn new(alloc: Global, order: &'n [Name]) -> Result<Known<'n>, OutOfMemory>
@@ -109,7 +109,7 @@ impl<'n> Known<'n> {
 
     /// The number of a name's strand, where it is known.
     fn known(&self, name: u32) -> Option<u32>
-        ensures { result ≡ known_at self.now.order.now self.now.numbers.items name }
+        ensures { result ≡ known_number self.now.order.now self.now.numbers.items name }
     {
         if name == 0 {
             return self.root();

@@ -137,11 +137,11 @@ impl<S: Drop> Table<S> {
 }
 
 impl Table<Standing> {
-    ghost use Rattle.cw_job.specs.Jobs.{Job, TakesWords, bare};
+    ghost use Rattle.cw_job.specs.Jobs.{Job, TakesWords, bare_job};
     ghost use Rattle.cw_job.specs.Room.Strands.{StrandState, state_of, strands_of_job};
     ghost use Rattle.cw_serial.specs.StrandTree.{StrandTree, goes_on};
     ghost use Rattle.cw_serial.specs.Spots.{IsSettled};
-    ghost use Rattle.cw_serial.specs.TableInMemory.{Answers, answers_by, Moves, SettlesTo, Holds, IsFront, want_at, over_at};
+    ghost use Rattle.cw_serial.specs.TableInMemory.{AnswersStrand, answers_by, Moves, SettlesTo, Holds, IsFront, want_at, over_at};
     ghost use Rattle.cw_serial.specs.AreOf.{AreOf};
 
     /// The strand of main alone, with its forks made.
@@ -198,9 +198,9 @@ impl Table<Standing> {
         program: &Program,
     ) -> Result<(), OutOfMemory>
         requires stands { AreOf program.now self.old.rows.items }
-        requires answered { answers_by (want_at (strands_of_job (bare program.now)) state_of self.old.rows.items number) ≡ true }
+        requires answered { answers_by (want_at (strands_of_job (bare_job program.now)) state_of self.old.rows.items number) ≡ true }
         ensures answers { OnOk result ((job : Job) → job.program ≡ program.now →
-            Answers (strands_of_job job) state_of self.old number given self.new) }
+            AnswersStrand (strands_of_job job) state_of self.old number given self.new) }
         ensures stands { OnOk result (AreOf program.now self.new.rows.items) }
     {
         let Place::Stands(mut strand) = self.put(number, Place::Gone) else {
@@ -262,7 +262,7 @@ impl Table<Standing> {
         todo: &mut Vec<u32>,
     ) -> Result<(), OutOfMemory>
         requires stands { AreOf program.now self.old.rows.items }
-        requires wants { want_at (strands_of_job (bare program.now)) state_of self.old.rows.items number ≡ Some Want.Fork }
+        requires wants { want_at (strands_of_job (bare_job program.now)) state_of self.old.rows.items number ≡ Some Want.Fork }
         ensures moves { OnOk result ((job : Job) → job.program ≡ program.now →
             Moves (strands_of_job job) state_of self.old number todo.old.items self.new todo.new.items) }
         ensures stands { OnOk result (AreOf program.now self.new.rows.items) }
@@ -307,7 +307,7 @@ impl Table<Standing> {
         todo: &mut Vec<u32>,
     ) -> Result<(), OutOfMemory>
         requires stands { AreOf program.now self.old.rows.items }
-        requires over { over_at (strands_of_job (bare program.now)) state_of self.old.rows.items number ≡ true }
+        requires over { over_at (strands_of_job (bare_job program.now)) state_of self.old.rows.items number ≡ true }
         ensures moves { OnOk result ((job : Job) → job.program ≡ program.now →
             Moves (strands_of_job job) state_of self.old number todo.old.items self.new todo.new.items) }
         ensures stands { OnOk result (AreOf program.now self.new.rows.items) }

@@ -2,7 +2,7 @@ ghost use Rattle.std.specs.Prelude.{◌≡◌, ℕ, ℤ, List, [], IfOk, OnOk, i
 ghost use Rattle.std.specs.BTreeMap.{get};
 ghost use Rattle.std.specs.Ordering.{nat_cmp};
 ghost use Rattle.cw_strand.specs.declared.want.Want.TheVariants as Want;
-ghost use Rattle.cw_serial.specs.Wants.{put_back};
+ghost use Rattle.cw_serial.specs.Wants.{put_back_since};
 ghost use Rattle.cw_serial.specs.InMemory.{held_before, since_of};
 
 use crate::value_at;
@@ -36,7 +36,7 @@ pub struct Undo {
 
 impl Undo {
     ghost use Rattle.cw_serial.specs.Wants.{Since, given_up};
-    ghost use Rattle.cw_serial.specs.InMemory.{AreSince, Follows, is_own};
+    ghost use Rattle.cw_serial.specs.InMemory.{AreSince, UndoFollows, is_own};
 
     pub fn new(alloc: Global) -> Undo
         ensures begun { result.begun ≡ [] }
@@ -61,7 +61,7 @@ impl Undo {
     /// Follows a want of that strand, before it is done in the memory: a block begins or ends, and while one is begun, what a write replaces
     /// is kept. Answers false where the want cannot be done, with nothing changed.
     pub fn follow(&mut self, strand: u32, want: Want, memory: &[i64]) -> Result<bool, OutOfMemory>
-        ensures follows { IfOk result (λ done. Follows want strand memory.now self.old done self.new) }
+        ensures follows { IfOk result (λ done. UndoFollows want strand memory.now self.old done self.new) }
         ensures few { OnOk result ((self.old.begun ≡ [] → self.old.writes.items ≡ []) → self.new.begun ≡ [] → self.new.writes.items ≡ []) }
     {
         match want {
@@ -86,7 +86,7 @@ impl Undo {
 
     /// Ends the innermost block, where it is that strand's own. Once the outermost one has ended no write is kept.
     fn end(&mut self, strand: u32) -> bool
-        ensures follows { (memory : List ℤ) → Follows Want.End strand memory self.old result self.new }
+        ensures follows { (memory : List ℤ) → UndoFollows Want.End strand memory self.old result self.new }
         ensures few { (self.old.begun ≡ [] → self.old.writes.items ≡ []) → self.new.begun ≡ [] → self.new.writes.items ≡ [] }
     {
         if !self.is_own(strand) {
@@ -113,7 +113,7 @@ impl Undo {
 
 /// What is put back to undo these writes in the memory.
 fn put_back(alloc: Global, writes: &[Write], memory: &[i64]) -> Result<Seq<Back>, OutOfMemory>
-    ensures { IfOk result (λ list. list ≡ put_back (since_of writes.now memory.now)) }
+    ensures { IfOk result (λ list. list ≡ put_back_since (since_of writes.now memory.now)) }
 {
     let held = held_before(alloc, writes, memory.len())?;
     let mut list = Seq::new(alloc);

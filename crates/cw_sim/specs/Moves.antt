@@ -17,7 +17,7 @@ use Rattle.cw_core.specs.declared.event.Reply.TheVariants as reply
 use Rattle.cw_core.specs.State.{is_split, spent}
 use Rattle.cw_open.specs.Steps.{puts_back}
 use Rattle.cw_core.specs.Events.{after_event, reply_to, may_fork, next}
-use Rattle.cw_sim.specs.Workers.{Simulation, left_node, right_node, changed, with_fork, tree, worker, with_strand, with_worker, with_run}
+use Rattle.cw_sim.specs.Workers.{Simulation, left_node, right_node, changed_at, with_fork, tree, worker, with_strand, with_worker, with_run}
 
 -- a read is given the value, a write nothing
 abbrev pub given_for : Option ℤ → ℤ → Given
@@ -70,9 +70,9 @@ module _ {A : Type 0} where
     goes_to_right w f true m = joins w f (does (event.Finish (right_node f) true) (takes_back w f m))
 
     -- one of the strands of fork f has finished: they join where the other one has too, and else worker w is idle
-    abbrev pub meets : (w f : ℕ) → (both : Bool) → Simulation A → Simulation A
-    meets w f false m = with_run w None m
-    meets w f true m = joins w f m
+    abbrev pub joins_or_idles : (w f : ℕ) → (both : Bool) → Simulation A → Simulation A
+    joins_or_idles w f false m = with_run w None m
+    joins_or_idles w f true m = joins w f m
 
     -- after main, nothing; after the left strand of a fork that was not split, its right one; else the strand that forked
     abbrev pub follows : (w x : ℕ) → (dead : Bool) → Simulation A → Simulation A
@@ -81,7 +81,7 @@ module _ {A : Type 0} where
         let f = parent_of (tree m) (suc x) in
         if (suc x == left_node f) && not (is_split m.core f)
         then goes_to_right w f dead m
-        else meets w f (has_finished m.core.machine (left_node f) && has_finished m.core.machine (right_node f)) m
+        else joins_or_idles w f (has_finished m.core.machine (left_node f) && has_finished m.core.machine (right_node f)) m
 
     abbrev pub finishes : (w x : ℕ) → (dead : Bool) → Simulation A → Simulation A
     finishes w x dead m = follows w x dead (does (event.Finish x dead) m)
@@ -114,7 +114,7 @@ module _ {A : Type 0} where
 
     -- the block is the next node
     abbrev pub begins : ℕ → Simulation A → Simulation A
-    begins x m = answers x Nothing (record (does (event.Begin x) m) { saved = changed (length (tree m)) (m.at x) m.saved })
+    begins x m = answers x Nothing (record (does (event.Begin x) m) { saved = changed_at (length (tree m)) (m.at x) m.saved })
 
     -- the block is given up: the strand is told what to put back, which it wants next, each as a write of its own, and then the block's end
     abbrev pub gives_up : ℕ → Simulation A → Simulation A

@@ -6,12 +6,12 @@ use Rattle.cw_sim.specs.Turns.{ListsWorkers, state_after}
 use Rattle.cw_sim.specs.declared.turns.Turns.{Turns}
 
 -- the generator of a schedule after n draws, while it draws
-abbrev pub IsDrawn : Schedule → (state n : ℕ) → Type 0
-IsDrawn (Listed list) state n = Unit {0}
-IsDrawn (Seeded seed) state n = n < 100000 → state ≡ state_after n seed
+abbrev pub IsGeneratorAfter : Schedule → (state n : ℕ) → Type 0
+IsGeneratorAfter (Listed list) state n = Unit {0}
+IsGeneratorAfter (Seeded seed) state n = n < 100000 → state ≡ state_after n seed
 
 -- They stand before the n-th move.
 pub record AreAt (t : Turns) (n : ℕ) : Type 0 where
   pub workers : 0 < t.workers
   pub listed : ListsWorkers t.schedule.now t.workers
-  pub drawn : IsDrawn t.schedule.now t.drawing n
+  pub drawn : IsGeneratorAfter t.schedule.now t.drawing n

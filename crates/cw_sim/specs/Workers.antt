@@ -44,8 +44,8 @@ abbrev pub right_node : ℕ → ℕ
 right_node f = f + 2
 
 -- with another value at n
-abbrev pub changed : {A : Type 0} → ℕ → A → (ℕ → A) → ℕ → A
-changed n a f m = if m == n then a else f m
+abbrev pub changed_at : {A : Type 0} → ℕ → A → (ℕ → A) → ℕ → A
+changed_at n a f m = if m == n then a else f m
 
 module _ {A : Type 0} where
   abbrev pub tree : Simulation A → List Node
@@ -67,7 +67,7 @@ module _ {A : Type 0} where
 
   -- strand x stands here
   abbrev pub with_strand : ℕ → A → Simulation A → Simulation A
-  with_strand x a m = record m { at = changed x a m.at }
+  with_strand x a m = record m { at = changed_at x a m.at }
 
   abbrev pub with_worker : ℕ → Worker → Simulation A → Simulation A
   with_worker w x m = record m { workers = slice_set m.workers w x }

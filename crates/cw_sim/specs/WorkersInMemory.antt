@@ -28,5 +28,5 @@ pub record IsLast (w : Worker) (f : ℕ) : Type 0 where
   pub once : has before f ≡ false
 
 -- fork f no more waits
-abbrev pub without : ℕ → Worker → Worker
-without f w = record w { deque = filter (λ g. not (g == f)) w.deque; inline = filter (λ g. not (g == f)) w.inline }
+abbrev pub without_waiting : ℕ → Worker → Worker
+without_waiting f w = record w { deque = filter (λ g. not (g == f)) w.deque; inline = filter (λ g. not (g == f)) w.inline }

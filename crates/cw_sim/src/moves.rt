@@ -4,7 +4,7 @@ ghost use Rattle.cw_strand.specs.declared.want.Given.TheVariants as given;
 ghost use Rattle.cw_strand.specs.Programs.{IsCompiled};
 ghost use Rattle.cw_job.specs.Jobs.{TakesWords, job_of_task};
 ghost use Rattle.cw_sim.specs.Workers.{left_node, right_node, tree, with_strand, worker};
-ghost use Rattle.cw_sim.specs.Moves.{accesses, acts, answers, begins, dies, does, finishes, follows, forks, gives_up, given_for, is_run_over, joins, meets, move, others, steals, stops_if_spent, takes, goes_to_right};
+ghost use Rattle.cw_sim.specs.Moves.{accesses, acts, answers, begins, dies, does, finishes, follows, forks, gives_up, given_for, is_run_over, joins, joins_or_idles, move, others, steals, stops_if_spent, takes, goes_to_right};
 ghost use Rattle.cw_sim.specs.Runs.{closed_of, simulation_of};
 ghost use Rattle.cw_sim.specs.Turns.{ListsWorkers};
 ghost use Rattle.cw_open.specs.Machine.{has_finished};
@@ -160,9 +160,9 @@ impl<'a> Driver<'a> {
     }
 
     /// One of the strands of a fork has finished: they join where the other one has, too, and else worker w is idle.
-    fn meets(&mut self, w: u32, fork: u32) -> Result<(), OutOfMemory>
+    fn joins_or_idles(&mut self, w: u32, fork: u32) -> Result<(), OutOfMemory>
         requires { (z : Seen) × MayMeet self.old w fork z }
-        ensures { OnOk result ((z : Seen) → MayMeet self.old w fork z → Comes self.new z (meets (law_of z) w fork (has_finished z.m.core.machine (left_node fork) && has_finished z.m.core.machine (right_node fork)) z.m)) }
+        ensures { OnOk result ((z : Seen) → MayMeet self.old w fork z → Comes self.new z (joins_or_idles (law_of z) w fork (has_finished z.m.core.machine (left_node fork) && has_finished z.m.core.machine (right_node fork)) z.m)) }
     {
         self.hint();
         if self.core.has_finished(fork + 1) && self.core.has_finished(fork + 2) {
@@ -186,7 +186,7 @@ impl<'a> Driver<'a> {
         if strand == fork + 1 && !self.core.is_split(fork) {
             return self.goes_to_right(w, fork, dead);
         }
-        self.meets(w, fork)
+        self.joins_or_idles(w, fork)
     }
 
     /// A strand of worker w has come to its end.

@@ -16,7 +16,7 @@ pub(crate) struct Worker {
     pub(crate) inline: Vec<u32>,
 }
 
-ghost use Rattle.cw_sim.specs.WorkersInMemory.{first_with_forks, workers_next, IsLast, without, workers_of};
+ghost use Rattle.cw_sim.specs.WorkersInMemory.{first_with_forks, workers_next, IsLast, without_waiting, workers_of};
 
 /// A worker in which no fork waits.
 fn resting(alloc: Global, runs: Option<u32>) -> Worker
@@ -82,7 +82,7 @@ pub(crate) fn take_oldest(workers: &mut Vec<Worker>, w: usize) -> Option<u32>
 pub(crate) fn take_newest(workers: &mut Vec<Worker>, w: u32, _fork: u32)
     requires there { w < vec_len workers.old }
     requires last { IsLast (worker_in (workers_of workers.old.items) w) _fork }
-    ensures { workers_of workers.new.items ≡ slice_set (workers_of workers.old.items) w (without _fork (worker_in (workers_of workers.old.items) w)) }
+    ensures { workers_of workers.new.items ≡ slice_set (workers_of workers.old.items) w (without_waiting _fork (worker_in (workers_of workers.old.items) w)) }
 {
     let worker = &mut workers[w as usize];
     if worker.inline.pop().is_none() {

@@ -2,4 +2,4 @@ pub mod Clock
 pub mod Turns
 pub mod Cells
 pub mod Tiers
-pub mod Stops
+pub mod StopWord

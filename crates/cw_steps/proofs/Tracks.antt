@@ -1,7 +1,6 @@
--- Serves `drawn`, `brought` and `turned`: what a step makes of a track, of its seat's view and of what the token stands for.
-use Rattle.std.proofs.Common.{◌≡◌, ℕ, suc, ◌+◌, Bool, true, false, List, [], ◌∷◌, ◌++◌, drop, length, reverse, arith, refl, sym, ap, ◌∙◌, subst, add-one}
-use Rattle.std.specs.Prelude.{◌==◌, Option, Some, None, find, if◌then◌else◌}
-use Rattle.std.proofs.lemmas.List.{reverse-append}
+-- Serves `drawn`, `brought` and `turned_track`: what a step makes of a track, of its seat's view and of what the token stands for.
+use Rattle.std.proofs.Common.{◌≡◌, ℕ, suc, ◌+◌, Bool, true, false, List, [], ◌∷◌, drop, length, arith, refl, sym, ap, ◌∙◌, subst, add-one}
+use Rattle.std.specs.Prelude.{◌==◌, Option, Some, None, if◌then◌else◌}
 use Rattle.cw_tree.specs.declared.closed.Halt.{Halt}
 use Rattle.cw_log.specs.declared.log.Above.{Above}
 use Rattle.cw_log.specs.declared.token.Phase.TheVariants.{Going}
@@ -17,10 +16,10 @@ use Rattle.cw_steps.specs.declared.track.Stood.{Stood}
 use Rattle.cw_steps.specs.declared.view.View.{View}
 use Rattle.cw_steps.specs.declared.track.Ahead.{Ahead}
 use Rattle.cw_steps.specs.declared.view.Coming.{Coming}
-use Rattle.cw_steps.specs.Tracks.{TrackParts, drawn, brought, forked_in, turned, turned_by, turned_on, settled, parted, right_track, taken_in, outer_of, put_first, coming_of, column_or, halt_of, first_begun, arounds_of, are_within, begins, one_more, plain_tail, IsBeside, WaitsBeside}
+use Rattle.cw_steps.specs.Tracks.{TrackParts, drawn, brought, forked_in, turned_track, turned_track_by, turned_on, settled, parted, right_track, joined_track, outer_of, put_first, coming_of, halt_of, first_begun, arounds_of, are_within, begins, one_more, IsBeside, WaitsBeside}
 use Rattle.cw_steps.specs.Around.{caught_up, gone_behind, gone_over, outwards, innermost}
 use Rattle.cw_steps.specs.Views.{drew_view, gave_view, parted_view, right_view, new_seat_view, joined_view, both_view, kept_halt, stood_at, further_out}
-use Rattle.cw_steps.specs.Stands.{stands_for, stands_over, drawn_token, brought_token, right_token, EndsBlock}
+use Rattle.cw_steps.specs.Stands.{stands_for, drawn_token, brought_token, right_token, EndsBlock}
 use Rattle.cw_steps.proofs.Tracks.Pending.{first_all, arounds_less, arounds_more, arounds_over, both_within, innermost_around, is_own, more_within, over_or_not, within_less, within_out, within_over, IsOwn}
 pub mod Pending
 
@@ -52,22 +51,6 @@ module _ (v : View) (h : Option Stop) where
   brought_stands (home.Inline used) c = refl
   brought_stands (home.Early before used) c = refl
 
-  turned_on_side : (c : TrackParts) (b : Bool) (o : Stood) (os : List Stood) (x : Side)
-      → (let o' : Stood = record o { side = x } in let c' : TrackParts = record c { outer = o' ∷ os; second = b } in
-      stands_for (turned_on c' o' os x) v h ≡ tokens.turned (stands_for c' v h))
-  turned_on_side c b o os (Beside fork) = refl
-  turned_on_side c true o os (First right) = refl
-  turned_on_side c false o os (First right) = refl
-  turned_on_side c true o os Second = ap (λ (ws : List (List ℕ)). stands_over (record c { strand = o.strand; place = o.place; outer = os; pending = first_begun o.pending c.pending; tail = plain_tail; behind = c.behind + 1; second = false }) ws v h) (one_more_behind c.behind v.arounds)
-  turned_on_side c false o os Second = ap (λ (ws : List (List ℕ)). stands_over (record c { strand = o.strand; place = o.place; outer = os; pending = first_begun o.pending c.pending; tail = plain_tail; behind = c.behind + 1; second = false }) ws v h) (one_more_behind c.behind v.arounds)
-
-  turned_from : (c : TrackParts) (os : List Stood) → stands_for (turned (record c { outer = os })) v h ≡ tokens.turned (stands_for (record c { outer = os }) v h)
-  turned_from c [] = refl
-  turned_from c (o ∷ os) = turned_on_side c c.second o os o.side
-
-  pub turned_stands : (c : TrackParts) → stands_for (turned c) v h ≡ tokens.turned (stands_for c v h)
-  turned_stands c = turned_from c c.outer
-
   pub parted_stands : (c : TrackParts) → stands_for (parted c) (parted_view false c.behind c.second v) h ≡ stands_for c v h
   parted_stands c = refl
 
@@ -80,12 +63,12 @@ module _ (v : View) (h : Option Stop) where
   right_stands c a e f = subst (λ y. stands_for (right_track c.own.column c.pending y) (new_seat_view false c.behind c.second v) None ≡ right_token (stands_for c v h) a) (sym e) (right_from c a v.coming (f ∙ ap coming_of e))
 
   joined_from : (c : TrackParts) (os : List Stood) (d : TrackParts) (w : View) (k : Option Stop) → WaitsBeside os
-      → stands_for (taken_in (record c { outer = os }) d) (both_view c.behind c.second v w) (tokens.kept_stop h k) ≡ tokens.taken_in (stands_for (record c { outer = os }) v h) (stands_for d w k)
+      → stands_for (joined_track (record c { outer = os }) d) (both_view c.behind c.second v w) (tokens.kept_stop h k) ≡ tokens.taken_in (stands_for (record c { outer = os }) v h) (stands_for d w k)
   joined_from c [] d w k p = absurd p
   joined_from c (o ∷ os) d w k p = refl
 
   pub joined_stands : (c d : TrackParts) (w : View) (k : Option Stop) → WaitsBeside c.outer
-      → stands_for (taken_in c d) (both_view c.behind c.second v w) (tokens.kept_stop h k) ≡ tokens.taken_in (stands_for c v h) (stands_for d w k)
+      → stands_for (joined_track c d) (both_view c.behind c.second v w) (tokens.kept_stop h k) ≡ tokens.taken_in (stands_for c v h) (stands_for d w k)
   joined_stands c d w k p = joined_from c c.outer d w k p
 
 -- ## Where a strand stands, in its log and in its seat's view
@@ -180,10 +163,10 @@ module _ (v : View) (c : TrackParts) (h : Agrees c v) where
   out_of o os e = ap outwards e
 
   joined_from_agrees : (os : List Stood) (d : TrackParts) (w : View) → WaitsBeside os → v.outer ≡ outer_of os → now ≡ arounds_of c.pending os → are_within (length c.pending) os ≡ true
-      → Agrees (taken_in (record c { outer = os }) d) (both_view c.behind c.second v w)
+      → Agrees (joined_track (record c { outer = os }) d) (both_view c.behind c.second v w)
   joined_from_agrees [] d w p e around within = absurd p
   joined_from_agrees (o ∷ os) d w p e around within = on_side o.side refl p where
-    on_side : (x : Side) → o.side ≡ x → IsBeside x → Agrees (taken_in (record c { outer = o ∷ os }) d) (both_view c.behind c.second v w)
+    on_side : (x : Side) → o.side ≡ x → IsBeside x → Agrees (joined_track (record c { outer = o ∷ os }) d) (both_view c.behind c.second v w)
     on_side (Beside fork) is q =
         let f : v.outer ≡ record { column = o.column; gap = o.gap; word = o.word } ∷ outer_of os = e ∙ ap (λ x. put_first x o (outer_of os)) is in record {
           column = ap (λ ws. (stood_at v ws).column) f;
@@ -197,7 +180,7 @@ module _ (v : View) (c : TrackParts) (h : Agrees c v) where
     on_side (First right) is q = absurd q
     on_side Second is q = absurd q
 
-  pub joined_agrees : (d : TrackParts) (w : View) → WaitsBeside c.outer → Agrees (taken_in c d) (both_view c.behind c.second v w)
+  pub joined_agrees : (d : TrackParts) (w : View) → WaitsBeside c.outer → Agrees (joined_track c d) (both_view c.behind c.second v w)
   joined_agrees d w p = joined_from_agrees c.outer d w p h.outer h.arounds h.within
 
   -- from one strand of a fork to the next
@@ -229,11 +212,11 @@ module _ (v : View) (c : TrackParts) (h : Agrees c v) where
         within = within_out c.pending o os (gone_behind c.behind v.arounds) further within;
       }
 
-  turned_by_agrees : (os : List Stood) → c.outer ≡ os → Agrees (turned_by c os) v
+  turned_by_agrees : (os : List Stood) → c.outer ≡ os → Agrees (turned_track_by c os) v
   turned_by_agrees [] e = h
   turned_by_agrees (o ∷ os) e = turned_from_agrees o os o.side e refl
 
-  pub turned_agrees : Agrees (turned c) v
+  pub turned_agrees : Agrees (turned_track c) v
   turned_agrees = turned_by_agrees c.outer refl
 
 -- a right strand has the blocks around it that are around the left one
@@ -260,12 +243,3 @@ halts_kept a b x y e f = (λ i. kept_halt (e i) (f i)) ∙ kept_as_one x y
 
 pub here_both : (behind : ℕ) (second : Bool) (v w : View) → w.here ≡ true → joined_view behind second v w ≡ both_view behind second v w
 here_both behind second v w e = ap (λ (b : Bool). if b then both_view behind second v w else record v { phase = Going }) e
-
--- ## The columns of strands that wait
-
-pub found_more : (n : ℕ) (xs : List Stood) (x : Stood)
-    → column_or (find (λ (o : Stood). o.strand == n) (reverse (xs ++ x ∷ []))) ≡ (if x.strand == n then x.column else column_or (find (λ (o : Stood). o.strand == n) (reverse xs)))
-found_more n xs x = ap (λ ys. column_or (find (λ (o : Stood). o.strand == n) ys)) (reverse-append xs (x ∷ [])) ∙ on_test (x.strand == n) where
-  on_test : (b : Bool) → column_or (if b then Some x else find (λ (o : Stood). o.strand == n) (reverse xs)) ≡ (if b then x.column else column_or (find (λ (o : Stood). o.strand == n) (reverse xs)))
-  on_test true = refl
-  on_test false = refl

@@ -51,7 +51,7 @@ pub record HasReturned (me me' : Me Slot View) : Type 0 where
 
 -- These are the entries of the cell that lay in slot n when the seat, which had done nothing but look, took its turn: their stamps rise, and each
 -- has the value that those before it left.
-pub record IsJournal (key : Key) (me : Me Slot View) (n : ℕ) (es : List Entry) : Type 0 where
+pub record IsFoundJournal (key : Key) (me : Me Slot View) (n : ℕ) (es : List Entry) : Type 0 where
   pub before : Me Slot View
   pub after : Me Slot View
   pub looked : HasReturned me before
@@ -63,6 +63,6 @@ pub record IsJournal (key : Key) (me : Me Slot View) (n : ℕ) (es : List Entry)
   pub steps : AreSteps cell.first es
 
 -- one for each cell
-pub record AreJournals (key : Key) (me : Me Slot View) (js : List (List Entry)) : Type 0 where
+pub record AreFoundJournals (key : Key) (me : Me Slot View) (js : List (List Entry)) : Type 0 where
   pub many : length js ≡ cells_of key
-  pub each : (n : ℕ) (es : List Entry) → slice_get js n ≡ Some es → IsJournal key me n es
+  pub each : (n : ℕ) (es : List Entry) → slice_get js n ≡ Some es → IsFoundJournal key me n es

@@ -12,8 +12,8 @@ stop_word cells = cells + 2
 abbrev pub gap_word : (cells gap : ℕ) → ℕ
 gap_word cells gap = cells + 3 + gap
 
-abbrev pub word_of : (cells : ℕ) → Place → ℕ
-word_of cells (Gap gap) = gap_word cells gap
+abbrev pub word_of_place : (cells : ℕ) → Place → ℕ
+word_of_place cells (Gap gap) = gap_word cells gap
 
 -- so many words are there
 abbrev pub all_words : (cells columns : ℕ) → ℕ

@@ -71,7 +71,7 @@ pub record HasHalted (views : List View) : Type 0 where
   pub halted : IsTrue (is_some knows.halt)
 
 -- The stop word is set only where a seat has halted, and only then has any seat been told so.
-pub record Stops (cells : ℕ) (words : List ℕ) (views : List View) : Type 0 where
+pub record StopWord (cells : ℕ) (words : List ℕ) (views : List View) : Type 0 where
   pub word : 0 < slice_index words (stop_word cells) → HasHalted views
   pub told : (k : ℕ) (v : View) → get_elem? views k ≡ some v → v.told ≡ true → HasHalted views
 
@@ -84,4 +84,4 @@ pub record Holds (key : Key) (s : State Slot View) : Type 0 where
   pub turns : Turns (cells_of key) s.words s.views
   pub cells : Cells (cells_of key) s.words s.homes
   pub tiers : Tiers (cells_of key) key.columns used s.words s.homes s.views
-  pub stops : Stops (cells_of key) s.words s.views
+  pub stops : StopWord (cells_of key) s.words s.views

@@ -19,9 +19,9 @@ use Rattle.cw_steps.specs.Around.{caught_up, innermost, outwards}
 use Rattle.cw_steps.specs.Views.{view_of}
 
 -- the forks in whose strands it stands, with the blocks around each
-abbrev pub opens : List Stood → List (List ℕ) → List Open
-opens [] ws = []
-opens (o ∷ os) ws = record { side = o.side; strand = o.strand; place = o.place; around = innermost ws } ∷ opens os (outwards ws)
+abbrev pub open_forks : List Stood → List (List ℕ) → List Open
+open_forks [] ws = []
+open_forks (o ∷ os) ws = record { side = o.side; strand = o.strand; place = o.place; around = innermost ws } ∷ open_forks os (outwards ws)
 
 -- with these blocks around the places where it and the strands that wait stand
 abbrev pub stands_over : TrackParts → List (List ℕ) → View → Option Stop → Token
@@ -31,7 +31,7 @@ stands_over c ws v stop = record {
   strand = c.strand;
   place = c.place;
   around = innermost ws;
-  forks = opens c.outer (outwards ws);
+  forks = open_forks c.outer (outwards ws);
   fork = v.fork;
   split = v.split;
   phase = v.phase;

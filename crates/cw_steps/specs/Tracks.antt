@@ -146,8 +146,8 @@ abbrev pub state_of_end : Bool → BlockState
 state_of_end true = Aborted
 state_of_end false = Committed
 
-abbrev pub with_nodes : TrackParts → List Node → TrackParts
-with_nodes c ns = record c { own = record c.own { nodes = ns } }
+abbrev pub track_with_nodes : TrackParts → List Node → TrackParts
+track_with_nodes c ns = record c { own = record c.own { nodes = ns } }
 
 -- a draw is made behind all forks that it went behind
 abbrev pub settled : TrackParts → TrackParts
@@ -155,18 +155,18 @@ settled c = record c { behind = 0; second = false }
 
 -- a node more in its place
 abbrev pub made_at : TrackParts → Kind → (stamp : ℕ) → TrackParts
-made_at c k stamp = record (with_nodes c (c.own.nodes ++ fresh_node c.place k stamp ∷ [])) { tail = plain_tail }
+made_at c k stamp = record (track_with_nodes c (c.own.nodes ++ fresh_node c.place k stamp ∷ [])) { tail = plain_tail }
 
 -- a block more in its place, in which it goes on
-abbrev pub begun : TrackParts → (stamp : ℕ) → TrackParts
-begun c stamp = record (made_at c Block stamp) {
+abbrev pub track_in_block : TrackParts → (stamp : ℕ) → TrackParts
+track_in_block c stamp = record (made_at c Block stamp) {
   place = length c.own.nodes;
   pending = record { begin = stamp; column = c.column; attempt = one_more c.tail.aborted } ∷ c.pending;
 }
 
 -- the block in its place is closed, and it goes on behind that
 abbrev pub closed_at : TrackParts → BlockState → (end : ℕ) → TrackParts
-closed_at c state end = record (with_nodes c (closed c.own.nodes c.place state end)) {
+closed_at c state end = record (track_with_nodes c (closed c.own.nodes c.place state end)) {
   place = parent_of c.own.nodes c.place;
   pending = drop 1 c.pending;
   tail = tail_behind state (innermost_of c.pending);
@@ -195,7 +195,7 @@ module _ (shared : Bool) where
   abbrev pub forked_in : TrackParts → (left right gap stamp : ℕ) → TrackParts
   forked_in c left right gap stamp =
       let n = length c.own.nodes in
-      record (with_nodes c (c.own.nodes ++ fresh_node c.place Fork stamp ∷ strands_in n)) {
+      record (track_with_nodes c (c.own.nodes ++ fresh_node c.place Fork stamp ∷ strands_in n)) {
         strand = n + 1;
         place = n + 1;
         column = left;
@@ -221,7 +221,7 @@ abbrev pub drawn : Draw → (stamp : ℕ) → TrackParts → TrackParts
 drawn (draw.Access c wrote v) stamp x = made_at (settled x) (kind_of_access c wrote v) stamp
 drawn (draw.Fork left right gap) stamp x = forked_at (settled x) left right gap stamp
 drawn (draw.Out v) stamp x = made_at (settled x) (kind.Out v) stamp
-drawn draw.Begin stamp x = begun (settled x) stamp
+drawn draw.Begin stamp x = track_in_block (settled x) stamp
 drawn (draw.End aborted) stamp x = closed_at (settled x) (state_of_end aborted) stamp
 
 -- the word of its gap was written
@@ -294,20 +294,20 @@ turned_on c o os (Beside fork) = c
 turned_on c o os (First right) = record c { strand = right; place = right; outer = record o { side = Second } ∷ os; pending = first_begun o.pending c.pending; tail = plain_tail; second = true }
 turned_on c o os Second = record c { strand = o.strand; place = o.place; outer = os; pending = first_begun o.pending c.pending; tail = plain_tail; behind = c.behind + 1; second = false }
 
-abbrev pub turned_by : TrackParts → List Stood → TrackParts
-turned_by c [] = c
-turned_by c (o ∷ os) = turned_on c o os o.side
+abbrev pub turned_track_by : TrackParts → List Stood → TrackParts
+turned_track_by c [] = c
+turned_track_by c (o ∷ os) = turned_on c o os o.side
 
-abbrev pub turned : TrackParts → TrackParts
-turned c = turned_by c c.outer
+abbrev pub turned_track : TrackParts → TrackParts
+turned_track c = turned_track_by c c.outer
 
 abbrev pub column_or : Option Stood → ℕ
 column_or None = 0
 column_or (Some o) = o.column
 
 -- the column of a strand in which it stands, its own or one that waits, or 0
-abbrev pub column_in : TrackParts → (strand : ℕ) → ℕ
-column_in c n = if n == c.strand then c.column else column_or (find (λ (o : Stood). o.strand == n) c.outer)
+abbrev pub column_of_strand : TrackParts → (strand : ℕ) → ℕ
+column_of_strand c n = if n == c.strand then c.column else column_or (find (λ (o : Stood). o.strand == n) c.outer)
 
 -- ## Tokens split off and taken in
 
@@ -349,5 +349,5 @@ WaitsBeside [] = ⊥
 WaitsBeside (o ∷ os) = IsBeside o.side
 
 -- the strand that forked, with the logs of both
-abbrev pub taken_in : (left right : TrackParts) → TrackParts
-taken_in c d = record (stood_by (settled c) c.outer) { joined = c.joined ++ d.own ∷ d.joined }
+abbrev pub joined_track : (left right : TrackParts) → TrackParts
+joined_track c d = record (stood_by (settled c) c.outer) { joined = c.joined ++ d.own ∷ d.joined }

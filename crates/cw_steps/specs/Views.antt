@@ -450,8 +450,8 @@ abbrev pub marked : Step Slot → Me Slot View → ℕ → Me Slot View → Type
 marked st me n me' = me' ≡ (marked_view st.word n me.0, me.1)
 
 -- the stop word is set to 1
-abbrev pub halted : Halt → Step Slot → Me Slot View → ℕ → Me Slot View → Type 0
-halted h st me n me' = (n ≡ 1) × (me' ≡ (halted_view st.word h me.0, me.1))
+abbrev pub set_stop : Halt → Step Slot → Me Slot View → ℕ → Me Slot View → Type 0
+set_stop h st me n me' = (n ≡ 1) × (me' ≡ (halted_view st.word h me.0, me.1))
 
 abbrev pub told : Step Slot → Me Slot View → ℕ → Me Slot View → Type 0
 told st me n me' = me' ≡ (told_view st.word n me.0, me.1)

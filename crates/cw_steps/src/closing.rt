@@ -6,7 +6,7 @@ ghost use Rattle.cw_log.specs.Tokens.{logs};
 ghost use Rattle.cw_course.specs.Closings.{conflicts_of, halt_in, tree_of, AreApart, IsPutTogether};
 ghost use Rattle.cw_tree.specs.InOrder.{conflicts_in_order, halt_in_order, in_order};
 ghost use Rattle.cw_tree.specs.Walks.{IsNumbered};
-ghost use Rattle.cw_steps.specs.Leaving.{logs_of_track, AreJournals, HasReturned};
+ghost use Rattle.cw_steps.specs.Leaving.{logs_of_track, AreFoundJournals, HasReturned};
 ghost use Rattle.cw_steps.specs.Stands.{token_of};
 ghost use Rattle.cw_steps.specs.Views.{key_of, IsTokenOf};
 
@@ -57,7 +57,7 @@ impl Shared {
     pub fn close(self, token: StrandToken) -> Result<Closed, (Shared, StrandToken, OutOfMemory)>
         requires { IsTokenOf self token }
         ensures together { IfOk result (λ c. IsPutTogether (logs (token_of token)) (token_of token).stop c) }
-        ensures journals { IfOk result (λ c. AreJournals (key_of self) token.seat.me c.journals) }
+        ensures journals { IfOk result (λ c. AreFoundJournals (key_of self) token.seat.me c.journals) }
         ensures table { IfErr result (λ e. (e.0 ≡ self) × IsTokenOf e.0 e.1) }
         ensures looked { IfErr result (λ e. HasReturned token.seat.me e.1.seat.me) }
         ensures kept { IfErr result (λ e. (e.1.track.room ≡ token.track.room) × (token_of e.1 ≡ token_of token)) }
@@ -72,7 +72,7 @@ impl Shared {
     fn closed(&self, token: &mut StrandToken) -> Result<Closed, OutOfMemory>
         requires { IsTokenOf self.now token.old }
         ensures together { IfOk result (λ c. IsPutTogether (logs (token_of token.old)) (token_of token.old).stop c) }
-        ensures journals { IfOk result (λ c. AreJournals (key_of self.now) token.old.seat.me c.journals) }
+        ensures journals { IfOk result (λ c. AreFoundJournals (key_of self.now) token.old.seat.me c.journals) }
         ensures table { IsTokenOf self.now token.new }
         ensures looked { HasReturned token.old.seat.me token.new.seat.me }
         ensures room { token.new.track.room ≡ token.old.track.room }

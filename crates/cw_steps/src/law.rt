@@ -172,9 +172,9 @@ pub struct Halts<W> {
 }
 
 impl<W: Halting> Play<Slot, View> for Halts<W> {
-    ghost use Rattle.cw_steps.specs.Views.{halted};
+    ghost use Rattle.cw_steps.specs.Views.{set_stop};
 
-    ghost then = { halted W.halt };
+    ghost then = { set_stop W.halt };
 }
 
 /// A look at the stop word.

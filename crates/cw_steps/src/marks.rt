@@ -139,7 +139,7 @@ impl Shared {
         requires there { places.IsThere (key_of self.now).columns at }
         requires version { version ≡ None }
         ensures table { IsTokenOf self.now token.new }
-        ensures view { view_of token.new ≡ noted_view (places.word_of (cells_of (key_of self.now)) at) result (view_of token.old) }
+        ensures view { view_of token.new ≡ noted_view (places.word_of_place (cells_of (key_of self.now)) at) result (view_of token.old) }
         ensures slots { held_by token.new ≡ held_by token.old }
         ensures track { token.new.track ≡ token.old.track }
         ensures token { token_of token.new ≡ token_of token.old }

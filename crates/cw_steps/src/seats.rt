@@ -2,7 +2,7 @@
 ghost use Rattle.std.specs.Prelude.{◌≡◌, ◌+◌, ◌*◌, ◌<◌, ◌≤◌, ◌^◌, [], true, false, Some, None, length};
 ghost use Rattle.cw_log.specs.declared.token.Phase.TheVariants.{Going, Over};
 ghost use Rattle.cw_log.specs.Tokens as tokens;
-ghost use Rattle.cw_steps.specs.Tracks.{note_track, parted, right_track, taken_in, track_of, CanPart, HasRoom, WaitsBeside};
+ghost use Rattle.cw_steps.specs.Tracks.{note_track, parted, right_track, joined_track, track_of, CanPart, HasRoom, WaitsBeside};
 ghost use Rattle.cw_steps.specs.declared.track.Ahead.{Ahead};
 ghost use Rattle.cw_steps.specs.Stands.{right_token, token_of};
 ghost use Rattle.cw_steps.specs.Views.{both_view, held_by, joined_view, new_seat_view, parted_view, share, view_of, IsTokenOf};
@@ -133,7 +133,7 @@ impl Shared {
         ensures table { IsTokenOf self.now token.new }
         ensures view { view_of token.new ≡ both_view token.old.track.behind token.old.track.second (view_of token.old) (view_of ending) }
         ensures slots { held_by token.new ≡ held_by token.old }
-        ensures track { track_of token.new.track ≡ taken_in (track_of token.old.track) (track_of ending.track) }
+        ensures track { track_of token.new.track ≡ joined_track (track_of token.old.track) (track_of ending.track) }
         ensures stop { token.new.stop ≡ tokens.kept_stop token.old.stop ending.stop }
         ensures room { token.new.track.room ≡ token.old.track.room }
         ensures token { token_of token.new ≡ tokens.taken_in (token_of token.old) (token_of ending) }
@@ -202,7 +202,7 @@ impl Shared {
         ensures view { view_of token.new ≡ joined_view token.old.track.behind token.old.track.second (view_of token.old) (view_of ending) }
         ensures slots { held_by token.new ≡ held_by token.old }
         ensures room { token.new.track.room ≡ token.old.track.room }
-        ensures both { (view_of ending).here ≡ true → track_of token.new.track ≡ taken_in (track_of token.old.track) (track_of ending.track) }
+        ensures both { (view_of ending).here ≡ true → track_of token.new.track ≡ joined_track (track_of token.old.track) (track_of ending.track) }
         ensures kept { (view_of ending).here ≡ true → token.new.stop ≡ tokens.kept_stop token.old.stop ending.stop }
         ensures both_as { (view_of ending).here ≡ true → token_of token.new ≡ tokens.taken_in (token_of token.old) (token_of ending) }
         ensures goes { (view_of ending).here ≡ false → (token.new.track ≡ token.old.track) × (token.new.stop ≡ token.old.stop) }

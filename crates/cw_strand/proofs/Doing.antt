@@ -11,7 +11,7 @@ use Rattle.cw_code.specs.Table.{effect_at}
 use Rattle.cw_strand.specs.declared.naming.Around.{Around}
 use Rattle.cw_strand.specs.declared.naming.Around.TheVariants as around
 use Rattle.cw_strand.specs.Names.{find, used, indexed, fault_of_call, count_of, in_term, in_terms, in_block, cells_of}
-use Rattle.cw_strand.specs.Meaning.{Locals, cell_of, Task, value, lift, join, enter, perform, bind, store_in, load_at, store_at, show, choose_by, test, repeat_by, forget, wait, commit, finish, finish_main, back_to, leave, give_up, given_up, arguments, unwound, lifted, joining, lifts, joins}
+use Rattle.cw_strand.specs.Meaning.{Locals, cell_of, Task, value, lift, join, enter, perform, bind, store_in, load_at, store_at, show, choose_by, test, repeat_by, forget, wait, commit, finish, finish_main, back_to, leave, give_up, tasks_after_cancel, arguments, unwound, lifted, joining, lifts, joins_operands}
 use Rattle.cw_strand.specs.Meaning as meaning
 use Rattle.cw_strand.specs.Coded.{Frame}
 use Rattle.cw_strand.specs.Compilation.{Slots, slot_of, function_names, calls, term_code, terms_code, statement_code, block_code, most, plain, operator_number, lift_code, join_code, writes, loads_at, stores_at, set}
@@ -158,7 +158,7 @@ module _ (ds : List Declaration) (code : List Instr) where
     shut_unwinds (shuts_commit there rest) = unwinds rest
 
   -- where a block is given up the code at its end does what is left
-  pub shut_does : {n h q : ℕ} {g : Slots} {k : List Task} {fs : List Frame} → Shuts n g h k q fs → Does n g h (given_up k) q fs
+  pub shut_does : {n h q : ℕ} {g : Slots} {k : List Task} {fs : List Frame} → Shuts n g h k q fs → Does n g h (tasks_after_cancel k) q fs
   shut_does (shuts_perform shut) = shut_does shut
   shut_does (shuts_test shut) = shut_does shut
   shut_does (shuts_wait shut) = shut_does shut
@@ -192,11 +192,11 @@ module _ (ds : List Declaration) (code : List Instr) where
   joining_joins op.Not = tt
   joining_joins o = refl
 
-  does_if_joins : {n h p : ℕ} {g : Slots} {k : List Task} {fs : List Frame} (o : Option Operator) → Joins o → slice_get code p ≡ Some (join_code o) → Does n g (suc h) k (p + 1) fs → Does n g (suc (suc h)) (joins o k) p fs
+  does_if_joins : {n h p : ℕ} {g : Slots} {k : List Task} {fs : List Frame} (o : Option Operator) → Joins o → slice_get code p ≡ Some (join_code o) → Does n g (suc h) k (p + 1) fs → Does n g (suc (suc h)) (joins_operands o k) p fs
   does_if_joins None is there rest = does_discard there rest
   does_if_joins (Some o) is there rest = does_join is there rest
 
-  pub does_joins : {n h p : ℕ} {g : Slots} {k : List Task} {fs : List Frame} (o : Op) → slice_get code p ≡ Some (join_code (joining o)) → Does n g (suc h) k (p + 1) fs → Does n g (suc (suc h)) (joins (joining o) k) p fs
+  pub does_joins : {n h p : ℕ} {g : Slots} {k : List Task} {fs : List Frame} (o : Op) → slice_get code p ≡ Some (join_code (joining o)) → Does n g (suc h) k (p + 1) fs → Does n g (suc (suc h)) (joins_operands (joining o) k) p fs
   does_joins o there rest = does_if_joins (joining o) (joining_joins o) there rest
 
   -- the arguments of a call, one after another

@@ -10,7 +10,7 @@ use Rattle.cw_code.specs.declared.FaultKind.{FaultKind}
 use Rattle.cw_code.specs.declared.Limits.{Limits}
 use Rattle.cw_code.specs.declared.effects.Effect.{Effect}
 use Rattle.cw_code.specs.declared.effects.Effect.TheVariants as t
-use Rattle.cw_code.specs.Rules.{below, cells_below, effect_of, faults, operand_faults}
+use Rattle.cw_code.specs.Rules.{is_number_below, cells_below, effect_of, faults, operand_faults}
 use Rattle.cw_code.proofs.Sound.{owner, operands_fine, has_effect, below_names, tested}
 use Rattle.cw_strand.specs.declared.want.Want.{Want}
 use Rattle.cw_strand.specs.declared.want.Want.TheVariants.{Out, Begin, Cancel}
@@ -32,7 +32,7 @@ pub element_below : (a : ℤ) (len cells : ℕ) → cells_below a len cells ≡ 
 element_below (pos m) len cells e n lt = omega (arith, lt, leb-true (m + len) cells (and_parts (nat_lt m cells) (nat_le (m + len) cells) e).1)
 element_below (negsuc m) len cells e n lt = absurd cc
 
-pub cell_below : (a : ℤ) (cells : ℕ) → below a cells ≡ true → index a < cells
+pub cell_below : (a : ℤ) (cells : ℕ) → is_number_below a cells ≡ true → index a < cells
 cell_below a cells e = let n = below_names a cells e in subst (λ z. index z < cells) (sym n.1) n.2
 
 module _ (code : Code) where

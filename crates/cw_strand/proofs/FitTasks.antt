@@ -20,7 +20,7 @@ use Rattle.cw_strand.specs.Arithmetic.{one, two, is_zero}
 use Rattle.cw_strand.specs.Names.{used, indexed, fault_of_call as call_fault, find, count_of, in_term, in_terms, in_block, in_functions, returned_from, cancelled_in, globals, cells_of}
 use Rattle.cw_strand.specs.Running.{on, wants, stuck}
 use Rattle.cw_strand.specs.Laws.{AllIsDone}
-use Rattle.cw_strand.specs.Meaning.{State, Locals, function_of, Task, value, lift, join, enter, discard, perform, bind, store_in, load_at, store_at, show, choose_by, test, repeat_by, forget, wait, commit, finish, finish_main, back_to, leave, give_up, given_up, counts, writes_back, arguments, unwound, begins_call, most_frames, bound_to, lifted, joining, lifts, joins, Step, step, step_of, result, read_name, write_name, begin_with, perform_with, wait_in, element_of, cell_of, in_range, local_of, in_place, with_value, ended}
+use Rattle.cw_strand.specs.Meaning.{State, Locals, function_of, Task, value, lift, join, enter, discard, perform, bind, store_in, load_at, store_at, show, choose_by, test, repeat_by, forget, wait, commit, finish, finish_main, back_to, leave, give_up, tasks_after_cancel, counts, writes_back, arguments, unwound, begins_call, most_frames, bound_to, lifted, joining, lifts, joins_operands, Step, step, step_of, result, read_name, write_name, begin_with, perform_with, wait_in, element_of, cell_of, in_range, local_of, in_place, with_value, ended}
 use Rattle.cw_strand.proofs.StandingNames.{no_fault, IsFound, IsCell, names_of, with_names, name_found, name_indexed, name_called, names_kept, names_dropped, body_named}
 
 -- the names that are left of more names once those are dropped
@@ -197,7 +197,7 @@ module _ (ds : List Declaration) (limits : Limits) where
   -- ## The end of an atomic block
 
   -- what is given up comes to its end
-  given_up_fits : (k : List Task) (names : List (List ℕ)) (os : List Open) → Closes k names os → Fits (given_up k) 0 names (opened around.Atomic 0 ∷ os)
+  given_up_fits : (k : List Task) (names : List (List ℕ)) (os : List Open) → Closes k names os → Fits (tasks_after_cancel k) 0 names (opened around.Atomic 0 ∷ os)
   given_up_fits (perform b ∷ k) names os h = given_up_fits k names os h
   given_up_fits (test e b ∷ k) names os h = given_up_fits k names os h
   given_up_fits (wait ∷ k) names os h = given_up_fits k names os h
@@ -220,7 +220,7 @@ module _ (ds : List Declaration) (limits : Limits) where
   lifts_fit None k c names os h = h
   lifts_fit (Some o) k c names os h = h
 
-  joins_fit : (o : Option Operator) (k : List Task) (c : ℕ) (names : List (List ℕ)) (os : List Open) → Fits k (suc c) names os → Fits (joins o k) (suc (suc c)) names os
+  joins_fit : (o : Option Operator) (k : List Task) (c : ℕ) (names : List (List ℕ)) (os : List Open) → Fits k (suc c) names os → Fits (joins_operands o k) (suc (suc c)) names os
   joins_fit None k c names os h = h
   joins_fit (Some o) k c names os h = h
 
@@ -375,7 +375,7 @@ module _ (ds : List Declaration) (limits : Limits) where
       commit_goes (in_function r) h = absurd h
 
     give_up_goes : (k : List Task) {own : List ℕ} {os : List Open} → Scoped own os → Fits (give_up ∷ k) 0 (names_of ls) os
-        → Goes own (counts (cells_of ds) (function_of ds) limits Cancel (state ls frames fuel size beside (given_up k) [] os))
+        → Goes own (counts (cells_of ds) (function_of ds) limits Cancel (state ls frames fuel size beside (tasks_after_cancel k) [] os))
     give_up_goes k (outermost {i = around.Atomic}) h = absurd (never_closes k (names_of ls) h)
     give_up_goes k (outermost {i = around.Spawn}) h = absurd h
     give_up_goes k (outermost {i = around.Neither}) h = absurd h
@@ -383,7 +383,7 @@ module _ (ds : List Declaration) (limits : Limits) where
     give_up_goes k (behind {i = around.Spawn} r) h = absurd h
     give_up_goes k (behind {i = around.Neither} r) h = absurd h
     give_up_goes k (within {b = b} {bs = bs} {o = o} {os = os} r) h =
-        either (suc b ∷ bs) (nat_le limits.size size) _ _ (tt, tt) (tt, fit ls frames fuel (size + 1) beside (opened around.Atomic 0 ∷ o ∷ os) (given_up k) [] (within r) (given_up_fits k (names_of ls) (o ∷ os) h))
+        either (suc b ∷ bs) (nat_le limits.size size) _ _ (tt, tt) (tt, fit ls frames fuel (size + 1) beside (opened around.Atomic 0 ∷ o ∷ os) (tasks_after_cancel k) [] (within r) (given_up_fits k (names_of ls) (o ∷ os) h))
     give_up_goes k (in_function r) h = absurd h
 
     finish_goes : (k : List Task) {own : List ℕ} {os : List Open} → Scoped own os → Fits (finish ∷ k) 0 (names_of ls) os → Goes own (wants Done (ended (forks_in os) (state ls frames fuel size beside (finish ∷ k) [] os)))
@@ -459,7 +459,7 @@ module _ (ds : List Declaration) (limits : Limits) where
           let (name_fault, terms_fault) = no_fault _ _ h.0 in
           fit ls frames fuel size beside (o ∷ os) (arguments es (enter w.name (count_of es) ∷ k)) vs r (call_fits w.name w.line es k (length vs) (names_of ls) o os name_fault terms_fault h.1)
       tasks_go (value (unary o e) ∷ k) vs own os r h = fit ls frames fuel size beside os (value e ∷ lifts (lifted o) k) vs r (h.0, lifts_fit (lifted o) k _ _ _ h.1)
-      tasks_go (value (binary o x y) ∷ k) vs own os r h = let (left, right) = no_fault _ _ h.0 in fit ls frames fuel size beside os (value x ∷ value y ∷ joins (joining o) k) vs r (left, (right, joins_fit (joining o) k _ _ _ h.1))
+      tasks_go (value (binary o x y) ∷ k) vs own os r h = let (left, right) = no_fault _ _ h.0 in fit ls frames fuel size beside os (value x ∷ value y ∷ joins_operands (joining o) k) vs r (left, (right, joins_fit (joining o) k _ _ _ h.1))
       tasks_go (lift o ∷ k) (x ∷ vs) own os r h = result_goes own os _ refl r (one o x) vs h
       tasks_go (join o ∷ k) (y ∷ x ∷ vs) own os r h = result_goes own os _ refl r (two o x y) vs h
       tasks_go (enter n c ∷ k) vs own (o ∷ os) r h = either own (nat_le limits.fuel fuel) _ _ (tt, tt) (called_goes ls frames (fuel + 1) size beside n c k vs own o os r h)

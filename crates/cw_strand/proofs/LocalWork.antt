@@ -21,7 +21,7 @@ use Rattle.cw_strand.specs.Arithmetic.{one, two, is_zero}
 use Rattle.cw_strand.specs.Running.{Running, on, wants, stuck, depth_of, IsBounded}
 use Rattle.cw_strand.specs.Names.{cells_of, count_of}
 use Rattle.cw_strand.proofs.Weights.{lighter, no_heavier}
-use Rattle.cw_strand.specs.Meaning.{State, Locals, Step, Function, function_of, Task, value, lift, join, enter, discard, perform, bind, store_in, load_at, store_at, show, choose_by, test, repeat_by, forget, wait, commit, finish, finish_main, back_to, leave, give_up, given_up, counts, writes_back, left, joined, arguments, unwound, begins_call, most_frames, lifted, joining, lifts, joins, result, wait_in, read_name, write_name, begin_with, perform_with, to_do, spends, local_of, element_of, cell_of, in_range, step, step_of, work, most_added, most_begun, block_work, terms_work, steps_left, with_value, ended, runs}
+use Rattle.cw_strand.specs.Meaning.{State, Locals, Step, Function, function_of, Task, value, lift, join, enter, discard, perform, bind, store_in, load_at, store_at, show, choose_by, test, repeat_by, forget, wait, commit, finish, finish_main, back_to, leave, give_up, tasks_after_cancel, counts, writes_back, left, joined, arguments, unwound, begins_call, most_frames, lifted, joining, lifts, joins_operands, result, wait_in, read_name, write_name, begin_with, perform_with, to_do, spends, local_of, element_of, cell_of, in_range, step, step_of, work, most_added, most_begun, block_work, terms_work, steps_left, with_value, ended, runs}
 
 -- ## Less to do
 
@@ -60,7 +60,7 @@ lifts_work : (o : Option Operator) (k : List Task) → (work (lifts o k) ≤ 1 +
 lifts_work None k = (omega arith, omega arith)
 lifts_work (Some o) k = (omega arith, omega arith)
 
-joins_work : (o : Option Operator) (k : List Task) → (work (joins o k) ≤ 1 + work k) × (most_added (joins o k) ≤ most_added k)
+joins_work : (o : Option Operator) (k : List Task) → (work (joins_operands o k) ≤ 1 + work k) × (most_added (joins_operands o k) ≤ most_added k)
 joins_work None k = (omega arith, omega arith)
 joins_work (Some o) k = (omega arith, omega arith)
 
@@ -75,7 +75,7 @@ unwound_work (finish ∷ k) = (omega arith, omega arith)
 unwound_work (finish_main ∷ k) = (omega arith, omega arith)
 unwound_work (t ∷ k) = let h = unwound_work k in (omega (arith, h.0), omega (arith, h.1))
 
-given_up_work : (k : List Task) → (work (given_up k) ≤ work k) × (most_added (given_up k) ≤ most_added k)
+given_up_work : (k : List Task) → (work (tasks_after_cancel k) ≤ work k) × (most_added (tasks_after_cancel k) ≤ most_added k)
 given_up_work [] = (omega arith, omega arith)
 given_up_work (forget n ∷ k) = let h = given_up_work k in (omega (arith, h.0), omega (arith, h.1))
 given_up_work (commit ∷ k) = (omega arith, omega arith)
@@ -211,7 +211,7 @@ module _ (ds : List Declaration) (words : List ℤ) (limits : Limits) (cells : L
           let h = arguments_work es todo in
           goes (arguments es todo) (value (call w es) ∷ k) (omega (arith, h.1)) (omega (arith, h.0))
       leaves (value (unary o e) ∷ k) vs = let h = lifts_work (lifted o) k in goes (value e ∷ lifts (lifted o) k) (value (unary o e) ∷ k) (omega (arith, h.1)) (omega (arith, h.0))
-      leaves (value (binary o l r) ∷ k) vs = let h = joins_work (joining o) k in goes (value l ∷ value r ∷ joins (joining o) k) (value (binary o l r) ∷ k) (omega (arith, h.1)) (omega (arith, h.0))
+      leaves (value (binary o l r) ∷ k) vs = let h = joins_work (joining o) k in goes (value l ∷ value r ∷ joins_operands (joining o) k) (value (binary o l r) ∷ k) (omega (arith, h.1)) (omega (arith, h.0))
       leaves (lift o ∷ k) (x ∷ vs) = result_leaves _ (one o x) vs _ (goes k (lift o ∷ k) (omega arith) (omega arith))
       leaves (join o ∷ k) (y ∷ x ∷ vs) = result_leaves _ (two o x y) vs _ (goes k (join o ∷ k) (omega arith) (omega arith))
       leaves (enter n c ∷ k) vs =
@@ -239,7 +239,7 @@ module _ (ds : List Declaration) (words : List ℤ) (limits : Limits) (cells : L
       leaves (back_to l us ∷ k) (v ∷ vs) = goes k (back_to l us ∷ k) (omega arith) (omega arith)
       leaves (give_up ∷ k) vs =
           let h = given_up_work k in
-          let lt = goes (given_up k) (give_up ∷ k) (omega (arith, h.1)) (omega (arith, h.0)) in
+          let lt = goes (tasks_after_cancel k) (give_up ∷ k) (omega (arith, h.1)) (omega (arith, h.0)) in
           either _ (nat_le limits.size size) _ _ (omega (arith, lt)) lt
       leaves (leave ∷ k) vs = let h = unwound_work k in goes (unwound k) (leave ∷ k) (omega (arith, h.1)) (omega (arith, h.0))
       leaves todo vs = tt
@@ -338,7 +338,7 @@ module _ (ds : List Declaration) (limits : Limits) (cells : List CellInfo) where
   counts_tasks n (commit ∷ k) vs s h = h
   counts_tasks n (finish ∷ k) vs s h = counts_ended n s.scopes (record s { values = vs }) h
   counts_tasks n (finish_main ∷ k) (v ∷ vs) s h = counts_ended n s.scopes (record s { values = v ∷ vs }) h
-  counts_tasks n (give_up ∷ k) vs s h = counts_one n Cancel (record s { todo = given_up k; values = vs }) h
+  counts_tasks n (give_up ∷ k) vs s h = counts_one n Cancel (record s { todo = tasks_after_cancel k; values = vs }) h
   counts_tasks n todo vs s h = tt
 
 -- ## With what is written back

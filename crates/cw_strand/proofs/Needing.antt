@@ -8,7 +8,7 @@ use Rattle.cw_code.specs.declared.instruction.Func.{Func}
 use Rattle.cw_code.specs.declared.instruction.Code.{Code}
 use Rattle.cw_code.specs.declared.effects.Effect.{Effect}
 use Rattle.cw_code.specs.declared.effects.Effect.TheVariants as t
-use Rattle.cw_code.specs.Rules.{below, cells_below, called, effect_of, faults, params_of}
+use Rattle.cw_code.specs.Rules.{is_number_below, cells_below, called, effect_of, faults, params_of}
 use Rattle.cw_code.proofs.Sound.{below_names, contained, laid, tested}
 use Rattle.cw_strand.specs.Coded.{State, index}
 use Rattle.cw_strand.specs.Standing.{NoneOver, StandsIn}
@@ -21,7 +21,7 @@ array_below (pos m) len cells e = leb-true (m + len) cells (and_parts (nat_lt m 
 array_below (negsuc m) len cells e = absurd cc
 
 module _ (code : Code) (ok : faults code ≡ []) where
-  takes : (i : Instr) (s : State) (f : Func) → slice_get code.funcs (index i.a) ≡ Some f → below i.a (length code.funcs) ≡ true → called code i.a ≤ length s.current.operands → HasArguments f s
+  takes : (i : Instr) (s : State) (f : Func) → slice_get code.funcs (index i.a) ≡ Some f → is_number_below i.a (length code.funcs) ≡ true → called code i.a ≤ length s.current.operands → HasArguments f s
   takes i s f is named room =
       let n = below_names i.a (length code.funcs) named in
       let at : slice_get code.funcs n.0 ≡ Some f = subst (λ z. slice_get code.funcs (index z) ≡ Some f) n.1 is in
@@ -39,7 +39,7 @@ module _ (code : Code) (ok : faults code ≡ []) where
   needs cells i (t.Join o) s low w = omega (arith, w.room)
   needs cells i t.JumpZero s low w = omega (arith, w.room)
   needs cells i t.Call s low w =
-      let named : below i.a (length code.funcs) ≡ true = tested _ _ _ w.operands in
+      let named : is_number_below i.a (length code.funcs) ≡ true = tested _ _ _ w.operands in
       (cell_below i.a (length code.funcs) named, λ f is. takes i s f is named w.room)
   needs cells i t.Ret s low w = omega (arith, w.room)
   needs cells i t.Drop s low w = omega (arith, w.room)

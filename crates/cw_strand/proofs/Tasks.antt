@@ -22,7 +22,7 @@ use Rattle.cw_strand.specs.declared.naming.Around.{Around}
 use Rattle.cw_strand.specs.declared.naming.Around.TheVariants as around
 use Rattle.cw_strand.specs.Names.{find, used, indexed, count_of, in_term, in_block, cells_of}
 use Rattle.cw_strand.specs.Meaning as m
-use Rattle.cw_strand.specs.Meaning.{Function, function_of, arguments, enter, Task, value, lift, join, discard, perform, bind, store_in, load_at, store_at, show, choose_by, test, repeat_by, forget, wait, commit, give_up, given_up, local_of, with_local, element_of, cell_of, lifted, joining, lifts, joins}
+use Rattle.cw_strand.specs.Meaning.{Function, function_of, arguments, enter, Task, value, lift, join, discard, perform, bind, store_in, load_at, store_at, show, choose_by, test, repeat_by, forget, wait, commit, give_up, tasks_after_cancel, local_of, with_local, element_of, cell_of, lifted, joining, lifts, joins_operands}
 use Rattle.cw_strand.specs.Coded as c
 use Rattle.cw_strand.specs.Coded.{Frame}
 use Rattle.cw_strand.specs.Compilation.{Slots, code_of, function_names, calls, slot_of, term_code, terms_code, statement_code, block_code, most, plain, operator_number, lift_code, join_code, reads, writes, loads_at, stores_at, element, push, set}
@@ -113,7 +113,7 @@ module _ (ds : List Declaration) (words : List ℤ) (limits : Limits) {g : Slots
       let behind_it = subst (λ q. Does ds instrs n g (suc (length vs)) k q fs) past rest in
       let last = does_joins ds instrs o (behind instrs (p + length a) b (i ∷ []) tail).0 behind_it in
       let second = does_value (no_fault _ _ named).1 (front instrs (p + length a) b (i ∷ []) tail) last in
-      same_place ds words limits x p vs (value l ∷ value r ∷ joins (joining o) k) (does_value (no_fault _ _ named).0 (front instrs p a (b ++ i ∷ []) has) second) refl
+      same_place ds words limits x p vs (value l ∷ value r ∷ joins_operands (joining o) k) (does_value (no_fault _ _ named).0 (front instrs p a (b ++ i ∷ []) has) second) refl
 
   -- ## Tasks that take operands
 
@@ -309,4 +309,4 @@ module _ (ds : List Declaration) (words : List ℤ) (limits : Limits) {g : Slots
   pub give_up_follows : (q : ℕ) (vs : List ℤ) (k : List Task) → slice_get instrs p ≡ Some instr.cancel → slice_get instrs (p + 1) ≡ Some (instr.jump q) → Shuts ds instrs n g (length vs) k q fs → Follows (m.act cells functions limits give_up vs k (source (give_up ∷ k) vs)) vs
   give_up_follows q vs k there jumps shut =
       let y : Shared ds words limits g n fs = record x { size = x.size + 1 } in
-      counts_follow vs Cancel x (given_up k) (p + 1) vs (acts ds words limits x p vs small instr.cancel effect.Cancel there refl) (alike ds words limits y (given_up k) (p + 1) vs (does_there jumps (shut_does ds instrs shut)) refl)
+      counts_follow vs Cancel x (tasks_after_cancel k) (p + 1) vs (acts ds words limits x p vs small instr.cancel effect.Cancel there refl) (alike ds words limits y (tasks_after_cancel k) (p + 1) vs (does_there jumps (shut_does ds instrs shut)) refl)

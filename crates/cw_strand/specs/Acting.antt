@@ -16,8 +16,8 @@ led_to On s = on s
 led_to (Wants w) s = wants w s
 
 -- An instruction with this effect, with the place behind it, takes a strand from one state to another.
-abbrev pub Acts : Code → Effect → Instr → ℕ → State → Led → State → Type 0
-Acts code e i p s l t = act code e i p s.current.operands s ≡ led_to l t
+abbrev pub TakesEffect : Code → Effect → Instr → ℕ → State → Led → State → Type 0
+TakesEffect code e i p s l t = act code e i p s.current.operands s ≡ led_to l t
 
 -- the arguments are there, and are among the function's locals
 pub record HasArguments (f : Func) (s : State) : Type 0 where
@@ -25,8 +25,8 @@ pub record HasArguments (f : Func) (s : State) : Type 0 where
   pub fits : f.params ≤ f.locals
 
 -- the function has begun, and the one that called it waits, to go on at this place
-abbrev pub entered : Func → ℕ → State → State
-entered f p s = record s {
+abbrev pub function_entered : Func → ℕ → State → State
+function_entered f p s = record s {
   current = record { place = f.start; operands = []; locals = locals_for f s.current.operands };
   callers = record { place = p; operands = drop f.params s.current.operands; locals = s.current.locals } ∷ s.callers;
   scopes = 0 ∷ s.scopes;

@@ -187,9 +187,9 @@ abbrev pub lifts : Option Operator → List Task → List Task
 lifts None k = k
 lifts (Some o) k = lift o ∷ k
 
-abbrev pub joins : Option Operator → List Task → List Task
-joins None k = discard ∷ k
-joins (Some o) k = join o ∷ k
+abbrev pub joins_operands : Option Operator → List Task → List Task
+joins_operands None k = discard ∷ k
+joins_operands (Some o) k = join o ∷ k
 
 -- arguments give their values one after another
 abbrev pub arguments : Terms → List Task → List Task
@@ -205,11 +205,11 @@ unwound (finish_main ∷ k) = finish_main ∷ k
 unwound (t ∷ k) = unwound k
 
 -- what is done where the innermost atomic block is given up: all that it declared is forgotten, and it ends
-abbrev pub given_up : List Task → List Task
-given_up [] = []
-given_up (forget n ∷ k) = forget n ∷ given_up k
-given_up (commit ∷ k) = commit ∷ k
-given_up (t ∷ k) = given_up k
+abbrev pub tasks_after_cancel : List Task → List Task
+tasks_after_cancel [] = []
+tasks_after_cancel (forget n ∷ k) = forget n ∷ tasks_after_cancel k
+tasks_after_cancel (commit ∷ k) = commit ∷ k
+tasks_after_cancel (t ∷ k) = tasks_after_cancel k
 
 -- the innermost scope has one fork more to wait for
 abbrev pub one_more : List ℕ → List ℕ
@@ -322,7 +322,7 @@ module _ (cells : List CellInfo) (functions : List ℕ → Option Function) (lim
   act (value (at w i)) vs k s = on (to_do (value i ∷ load_at w.name ∷ k) s)
   act (value (call w es)) vs k s = on (to_do (arguments es (enter w.name (count_of es) ∷ k)) s)
   act (value (unary o e)) vs k s = on (to_do (value e ∷ lifts (lifted o) k) s)
-  act (value (binary o l r)) vs k s = on (to_do (value l ∷ value r ∷ joins (joining o) k) s)
+  act (value (binary o l r)) vs k s = on (to_do (value l ∷ value r ∷ joins_operands (joining o) k) s)
   act (lift o) (x ∷ vs) k s = result (one o x) vs (to_do k s)
   act (join o) (y ∷ x ∷ vs) k s = result (two o x y) vs (to_do k s)
   act (enter n c) vs k s = spends s (λ t. begins_call (functions n) c k t)
@@ -346,7 +346,7 @@ module _ (cells : List CellInfo) (functions : List ℕ → Option Function) (lim
   act finish_main (v ∷ vs) k s = wants Done (ended s.scopes s)
   act (back_to ls us) (v ∷ vs) k s = on (record s { todo = k; values = v ∷ us; locals = ls; frames = s.frames - 1; scopes = drop 1 s.scopes })
   act leave vs k s = on (to_do (unwound k) s)
-  act give_up vs k s = counts Cancel (to_do (given_up k) s)
+  act give_up vs k s = counts Cancel (to_do (tasks_after_cancel k) s)
   act t vs k s = stuck
 
   abbrev pub step_of : List Task → State → Step

@@ -4,7 +4,7 @@ use Rattle.cw_text.specs.declared.terminal.Terminal.{Terminal}
 use Rattle.cw_text.specs.declared.terminal.Terminal.TheVariants as m
 use Rattle.cw_text.specs.Cancels.{statement_has_cancel, block_has_cancel, has_cancel}
 use Rattle.cw_text.specs.Lexemes.{keywords, keywords_of}
-use Rattle.cw_text.specs.Printed.{Placed, declaration_tokens, else_tokens, in_braces, in_parens, named, sign, statement_tokens, statements_tokens, term_tokens, tokens, words_tokens}
+use Rattle.cw_text.specs.Printed.{Placed, declaration_tokens, else_tokens, in_braces, in_parens, name_on_line, sign, statement_tokens, statements_tokens, term_tokens, tokens, words_tokens}
 use Rattle.cw_text.specs.PrintedText.{AreSpellable, more, none}
 use Rattle.cw_text.specs.Syntax.{Statement, choose, repeat, atomic, spawn, cancel, Block, empty, first, Declaration, Source, cell, func}
 use Rattle.cw_text.specs.Text.{program}
@@ -64,7 +64,7 @@ tree_has_none (cell n l len i ∷ ds) h = tree_has_none ds (behind (declaration_
 tree_has_none (func n l ps b ∷ ds) h =
     let one = before (declaration_tokens (func n l ps b)) (tokens ds) h in
     neither (block_has_cancel b) (has_cancel ds)
-    (block_has_none b (braced (statements_tokens b) (behind (sign m.Fn ++ named n l ++ in_parens (words_tokens ps)) (in_braces (statements_tokens b)) one)))
+    (block_has_none b (braced (statements_tokens b) (behind (sign m.Fn ++ name_on_line n l ++ in_parens (words_tokens ps)) (in_braces (statements_tokens b)) one)))
     (tree_has_none ds (behind (declaration_tokens (func n l ps b)) (tokens ds) h))
 
 pub language_one_has_none : (newest : ℕ) (text : List ℕ) (s : Source) → 1 ≤ newest → program newest text ≡ Ok s → s.language ≡ 1 → has_cancel s.items ≡ false

@@ -204,7 +204,7 @@ feed_alike nil vs t l = tt
 feed_alike (also {ss = k} {us = j} (makes {f} {h} e) rest) vs t l =
     subst (λ ws. StateAlike (feed k (f vs) t l) (feed j ws t 1)) (e vs) (feed_alike rest (f vs) t l)
 feed_alike (also {ss = k} {us = j} (lifts {o = o} {i = i} {l = n}) rest) vs t l =
-    subst (λ ws. StateAlike (feed (lifted o i ∷ k) vs t l) (cond (nat_lt 200 (newest_height ws)) (g.fault TooDeep n) (feed j ws t 1)))
+    subst (λ ws. StateAlike (feed (lifted o i ∷ k) vs t l) (cond (nat_lt 200 (newest_height ws)) (g.text_fault TooDeep n) (feed j ws t 1)))
     (lift_forgets o vs)
     (guarded_alike _ _ _ _ (feed k (g.lift o vs) t l) (feed j (values_without (g.lift o vs)) t 1) (ap (nat_lt 200) (sym (newest_without (g.lift o vs)))) (feed_alike rest (g.lift o vs) t l))
 feed_alike (also {ss = k} {us = j} reads rest) vs t l =

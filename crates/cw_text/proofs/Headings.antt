@@ -5,12 +5,12 @@ use Rattle.std.specs.Cmp.Lexicographic.{same_text}
 use Rattle.std.specs.Str.{bytes_eq}
 use Rattle.cw_text.specs.declared.terminal.Terminal.TheVariants as m
 use Rattle.cw_text.specs.Lexemes.{Lexemes, comes, end_on, name as a_name, number as a_number, terminal}
-use Rattle.cw_text.specs.Text.{ended, is_headed, language_of, numbered}
+use Rattle.cw_text.specs.Text.{line_ended, is_headed, language_of, numbered}
 use Rattle.cw_text.specs.Written.{IsHeading, a_heading, no_heading}
 
 -- ## What is named is written
 
-ended_is : (newest n k i j : ℕ) (xs : Lexemes) → 1 ≤ k → k ≤ newest → ended k xs ≡ Ok n → IsHeading newest n (comes (a_name (codes "language")) i (comes (a_number k) j xs))
+ended_is : (newest n k i j : ℕ) (xs : Lexemes) → 1 ≤ k → k ≤ newest → line_ended k xs ≡ Ok n → IsHeading newest n (comes (a_name (codes "language")) i (comes (a_number k) j xs))
 ended_is newest n k i j (end_on l) some new is = cc
 ended_is newest n k i j (comes (terminal m.Semicolon) l xs) some new is =
     let e : k ≡ n = cc in
@@ -20,7 +20,7 @@ ended_is newest n k i j (comes t l xs) some new is = cc
 
 numbered_is : (newest n i : ℕ) (xs : Lexemes) → numbered newest xs ≡ Ok n → IsHeading newest n (comes (a_name (codes "language")) i xs)
 numbered_is newest n i (comes (a_number k) j xs) =
-    cond_both (nat_le 1 k && nat_le k newest) (ended k xs) _ (λ r. r ≡ Ok n → IsHeading newest n (comes (a_name (codes "language")) i (comes (a_number k) j xs)))
+    cond_both (nat_le 1 k && nat_le k newest) (line_ended k xs) _ (λ r. r ≡ Ok n → IsHeading newest n (comes (a_name (codes "language")) i (comes (a_number k) j xs)))
     (λ within. let parts = and_parts (nat_le 1 k) (nat_le k newest) within in ended_is newest n k i j xs (leb-true 1 k parts.0) (leb-true k newest parts.1))
     (λ _ is. cc)
 numbered_is newest n i (comes (terminal a) j xs) = λ is. cc

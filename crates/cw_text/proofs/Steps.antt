@@ -11,7 +11,7 @@ use Rattle.cw_text.specs.declared.parser.Parser.{Parser}
 use Rattle.cw_text.specs.Lexemes.{Lexemes, rest_of, end_on, comes, number as a_number, name as a_name, terminal, bad, end}
 use Rattle.cw_text.specs.declared.ast.Word.{Word}
 use Rattle.cw_text.specs.Syntax.{Term, Terms, at, binary, block_of, call, first, height, height_of_all, more, name, none, statement_of, term_of, terms_of, unary, with_statement, with_term}
-use Rattle.cw_text.specs.Grammar.{Symbol, Values, a_term, read, pending, lifted, fault, act, arg_done, args, assign_done, assignment, more_args, call_done, index_done, join, some_terms, read_from, operand, expr, products, sums, comparison, closing, exactly}
+use Rattle.cw_text.specs.Grammar.{Symbol, Values, a_term, read, pending, lifted, text_fault, act, arg_done, args, assign_done, assignment, more_args, call_done, index_done, join, some_terms, read_from, operand, expr, products, sums, comparison, closing, exactly}
 use Rattle.cw_text.specs.Parser.{ahead, taken, GoesOn}
 use Rattle.cw_text.specs.declared.fault.TextFault.{TextFault}
 use Rattle.cw_text.specs.declared.fault.TextRefusal.{TextRefusal}
@@ -31,7 +31,7 @@ pub read-lifted : (o : Op) (l : ℕ) (e : Term) (k : List Symbol) (vs : Values) 
 read-lifted o l e k vs (end_on n) h = rw (le-ltb 200 (height e + 1) h) refl
 read-lifted o l e k vs (comes t n xs) h = rw (le-ltb 200 (height e + 1) h) refl
 
-pub read-lifted-high : (o : Op) (l : ℕ) (e : Term) (k : List Symbol) (vs : Values) (xs : Lexemes) → 200 < height e + 1 → read (lifted o l ∷ k) (a_term e ∷ vs) xs ≡ fault TooDeep l
+pub read-lifted-high : (o : Op) (l : ℕ) (e : Term) (k : List Symbol) (vs : Values) (xs : Lexemes) → 200 < height e + 1 → read (lifted o l ∷ k) (a_term e ∷ vs) xs ≡ text_fault TooDeep l
 read-lifted-high o l e k vs (end_on n) h = rw (lt-ltb 200 (height e + 1) h) refl
 read-lifted-high o l e k vs (comes t n xs) h = rw (lt-ltb 200 (height e + 1) h) refl
 
@@ -40,7 +40,7 @@ pub read-join : (o : Op) (l : ℕ) (a b : Term) (k : List Symbol) (vs : Values) 
 read-join o l a b k vs (end_on n) h = rw (le-ltb 200 (max (height a) (height b) + 1) h) refl
 read-join o l a b k vs (comes t n xs) h = rw (le-ltb 200 (max (height a) (height b) + 1) h) refl
 
-pub read-join-high : (o : Op) (l : ℕ) (a b : Term) (k : List Symbol) (vs : Values) (xs : Lexemes) → 200 < max (height a) (height b) + 1 → read (act (join o) ∷ read_from l ∷ k) (a_term b ∷ a_term a ∷ vs) xs ≡ fault TooDeep l
+pub read-join-high : (o : Op) (l : ℕ) (a b : Term) (k : List Symbol) (vs : Values) (xs : Lexemes) → 200 < max (height a) (height b) + 1 → read (act (join o) ∷ read_from l ∷ k) (a_term b ∷ a_term a ∷ vs) xs ≡ text_fault TooDeep l
 read-join-high o l a b k vs (end_on n) h = rw (lt-ltb 200 (max (height a) (height b) + 1) h) refl
 read-join-high o l a b k vs (comes t n xs) h = rw (lt-ltb 200 (max (height a) (height b) + 1) h) refl
 
@@ -49,7 +49,7 @@ pub read-index : (l : ℕ) (w : Word) (i : Term) (k : List Symbol) (vs : Values)
 read-index l w i k vs (end_on n) h = rw (le-ltb 200 (height i + 1) h) refl
 read-index l w i k vs (comes t n xs) h = rw (le-ltb 200 (height i + 1) h) refl
 
-pub read-index-high : (l : ℕ) (w : Word) (i : Term) (k : List Symbol) (vs : Values) (xs : Lexemes) → 200 < height i + 1 → read (act index_done ∷ read_from l ∷ k) (a_term i ∷ a_term (name w) ∷ vs) xs ≡ fault TooDeep l
+pub read-index-high : (l : ℕ) (w : Word) (i : Term) (k : List Symbol) (vs : Values) (xs : Lexemes) → 200 < height i + 1 → read (act index_done ∷ read_from l ∷ k) (a_term i ∷ a_term (name w) ∷ vs) xs ≡ text_fault TooDeep l
 read-index-high l w i k vs (end_on n) h = rw (lt-ltb 200 (height i + 1) h) refl
 read-index-high l w i k vs (comes t n xs) h = rw (lt-ltb 200 (height i + 1) h) refl
 
@@ -58,7 +58,7 @@ pub read-call : (l : ℕ) (w : Word) (es : Terms) (k : List Symbol) (vs : Values
 read-call l w es k vs (end_on n) h = rw (le-ltb 200 (height_of_all es + 1) h) refl
 read-call l w es k vs (comes t n xs) h = rw (le-ltb 200 (height_of_all es + 1) h) refl
 
-pub read-call-high : (l : ℕ) (w : Word) (es : Terms) (k : List Symbol) (vs : Values) (xs : Lexemes) → 200 < height_of_all es + 1 → read (act call_done ∷ read_from l ∷ k) (some_terms es ∷ a_term (name w) ∷ vs) xs ≡ fault TooDeep l
+pub read-call-high : (l : ℕ) (w : Word) (es : Terms) (k : List Symbol) (vs : Values) (xs : Lexemes) → 200 < height_of_all es + 1 → read (act call_done ∷ read_from l ∷ k) (some_terms es ∷ a_term (name w) ∷ vs) xs ≡ text_fault TooDeep l
 read-call-high l w es k vs (end_on n) h = rw (lt-ltb 200 (height_of_all es + 1) h) refl
 read-call-high l w es k vs (comes t n xs) h = rw (lt-ltb 200 (height_of_all es + 1) h) refl
 

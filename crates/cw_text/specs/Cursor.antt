@@ -15,6 +15,6 @@ abbrev pub tokens_left : Cursor → Lexemes
 tokens_left c = before c.token c.line (lexemes_from (keywords_of c.language) c.rest_line 0 c.rest.now)
 
 -- how many tokens are left
-abbrev pub count_of : Lexemes → ℕ
-count_of (end_on line) = 0
-count_of (comes t line xs) = count_of xs + 1
+abbrev pub count_of_lexemes : Lexemes → ℕ
+count_of_lexemes (end_on line) = 0
+count_of_lexemes (comes t line xs) = count_of_lexemes xs + 1

@@ -307,28 +307,28 @@ pending (closing a ∷ k) = pending k + 1
 pending (lifted o l ∷ k) = pending k + 1
 pending (s ∷ k) = pending k
 
-abbrev pub fault : TextKind → ℕ → {A : Type 0} → Result A TextFault
-fault k l = Err (record { kind = k; line = l })
+abbrev pub text_fault : TextKind → ℕ → {A : Type 0} → Result A TextFault
+text_fault k l = Err (record { kind = k; line = l })
 
 abbrev pub ReadingState : Type 0
 ReadingState = List Symbol × Values
 
 -- no more than 200 open
 abbrev pub opened : List Symbol → Values → ℕ → Result ReadingState TextFault
-opened k vs l = if nat_lt 200 (pending k) then fault TooDeep l else Ok (k, vs)
+opened k vs l = if nat_lt 200 (pending k) then text_fault TooDeep l else Ok (k, vs)
 
 -- what a symbol says of a token; rest is what the symbols after it say
 abbrev pub go_on : Next → List Symbol → Values → ℕ → Result ReadingState TextFault → Result ReadingState TextFault
 go_on (take ss) k vs l rest = opened (ss ++ k) vs l
 go_on skip k vs l rest = rest
-go_on (refuse why) k vs l rest = fault why l
+go_on (refuse why) k vs l rest = text_fault why l
 
 -- One token. An expression's height is looked at as soon as a token shows that it is over.
 abbrev pub feed : List Symbol → Values → Token → ℕ → Result ReadingState TextFault
-feed [] vs t l = fault (why t) l
+feed [] vs t l = text_fault (why t) l
 feed (act f ∷ k) vs t l = feed k (f vs) t l
-feed (lifted o begun ∷ k) vs t l = if nat_lt 200 (newest_height (lift o vs)) then fault TooDeep begun else feed k (lift o vs) t l
-feed (read_from begun ∷ k) vs t l = if nat_lt 200 (newest_height vs) then fault TooDeep begun else feed k vs t l
+feed (lifted o begun ∷ k) vs t l = if nat_lt 200 (newest_height (lift o vs)) then text_fault TooDeep begun else feed k (lift o vs) t l
+feed (read_from begun ∷ k) vs t l = if nat_lt 200 (newest_height vs) then text_fault TooDeep begun else feed k vs t l
 feed (s ∷ k) vs t l = let rest = feed k vs t l in go_on (expansion s t l) k vs l rest
 
 abbrev pub then_read : Result ReadingState TextFault → (List Symbol → Values → Result Values TextFault) → Result Values TextFault

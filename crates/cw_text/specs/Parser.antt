@@ -8,7 +8,7 @@ use Rattle.cw_text.specs.declared.fault.TextRefusal.{TextRefusal}
 use Rattle.cw_text.specs.declared.fault.TextRefusal.TheVariants.{Text, OutOfMemory}
 use Rattle.cw_text.specs.declared.parser.Parser.{Parser}
 use Rattle.cw_text.specs.Lexemes.{Lexemes, rest_of}
-use Rattle.cw_text.specs.Cursor.{tokens_left, count_of}
+use Rattle.cw_text.specs.Cursor.{tokens_left, count_of_lexemes}
 use Rattle.cw_text.specs.Syntax.{Declaration, declaration_of, statement_of}
 use Rattle.cw_text.specs.Grammar.{Symbol, Values, declared, items, opened, pending, read, stated, stmts, then_read}
 
@@ -35,7 +35,7 @@ taken k vs line left = then_read (opened k vs line) (λ k' vs'. read k' vs' (res
 -- The next token begins this symbol, and these symbols may come behind it.
 abbrev pub Begins : Parser → Symbol → List Symbol → Type 0
 Begins p s behind =
-    (count_of (rest_of (ahead p)) < count_of (ahead p))
+    (count_of_lexemes (rest_of (ahead p)) < count_of_lexemes (ahead p))
     × ((k : List Symbol) (vs : Values) → read (s ∷ k) vs (ahead p) ≡ taken (behind ++ k) vs p.cursor.line (ahead p))
 
 -- The next token does not begin this symbol, for which nothing may stand.

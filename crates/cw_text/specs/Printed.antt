@@ -19,11 +19,11 @@ tokens_before [] xs = xs
 tokens_before (p ∷ ps) xs = comes p.0 p.1 (tokens_before ps xs)
 
 -- A name, a `cancel` and a `return` have their lines in the tree. Every other token is put on line 1.
-abbrev pub named : List ℕ → ℕ → List Placed
-named n l = (a_name n, l) ∷ []
+abbrev pub name_on_line : List ℕ → ℕ → List Placed
+name_on_line n l = (a_name n, l) ∷ []
 
 abbrev pub word_tokens : Word → List Placed
-word_tokens w = named w.name w.line
+word_tokens w = name_on_line w.name w.line
 
 abbrev pub sign : Terminal → List Placed
 sign a = (terminal a, 1) ∷ []
@@ -145,15 +145,15 @@ words_tokens [] = []
 words_tokens (w ∷ ws) = word_tokens w ++ flat_map (λ w. sign m.Comma ++ word_tokens w) ws
 
 abbrev pub declaration_tokens : Declaration → List Placed
-declaration_tokens (cell n l len z) = sign m.Cell ++ named n l ++ size_tokens len ++ init_tokens z ++ sign m.Semicolon
-declaration_tokens (func n l ps b) = sign m.Fn ++ named n l ++ in_parens (words_tokens ps) ++ in_braces (statements_tokens b)
+declaration_tokens (cell n l len z) = sign m.Cell ++ name_on_line n l ++ size_tokens len ++ init_tokens z ++ sign m.Semicolon
+declaration_tokens (func n l ps b) = sign m.Fn ++ name_on_line n l ++ in_parens (words_tokens ps) ++ in_braces (statements_tokens b)
 
 abbrev pub tokens : List Declaration → List Placed
 tokens ds = flat_map declaration_tokens ds
 
 -- Language 1 is not written.
 abbrev pub heading_tokens : (language : ℕ) → List Placed
-heading_tokens language = if language == 2 then named (codes "language") 1 ++ (a_number 2, 1) ∷ sign m.Semicolon else []
+heading_tokens language = if language == 2 then name_on_line (codes "language") 1 ++ (a_number 2, 1) ∷ sign m.Semicolon else []
 
 -- a program, which ends on line 1
 abbrev pub printed : List Declaration → Lexemes

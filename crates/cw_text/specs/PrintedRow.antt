@@ -21,8 +21,8 @@ difference = binary op.Sub a b
 abbrev pub product : Term
 product = binary op.Mul a b
 
-abbrev pub element : Term → Term
-element i = at (word (codes "c")) i
+abbrev pub element_term : Term → Term
+element_term i = at (word (codes "c")) i
 
 abbrev pub tree : List Declaration
 tree =
@@ -41,8 +41,8 @@ tree =
     (first (out (binary op.Mul product (unary op.Not less)))
     (first (out (unary op.Neg (unary op.Neg (unary op.Not difference))))
     (first (out (binary op.Add (unary op.Neg product) (unary op.Neg (number (pos 0)))))
-    (first (assign_at (word (codes "c")) difference (element less))
-    (first (out (binary op.Rem (binary op.Div a product) (unary op.Neg (element (unary op.Neg (element a))))))
+    (first (assign_at (word (codes "c")) difference (element_term less))
+    (first (out (binary op.Rem (binary op.Div a product) (unary op.Neg (element_term (unary op.Neg (element_term a))))))
     (first (choose less (first (repeat difference (first (choose a empty empty) empty)) empty) (first (choose b empty (first sync empty)) empty))
     (first (out (binary op.Mul (call (word (codes "g")) (more less (more (call (word (codes "f")) none) none))) (unary op.Not (call (word (codes "h")) (more product none)))))
     (first (run (word (codes "g")) (more product (more difference none)))

@@ -10,7 +10,7 @@ use Rattle.cw_text.specs.declared.fault.TextRefusal.{TextRefusal}
 use Rattle.cw_text.specs.declared.fault.TextRefusal.TheVariants as refusal
 use Rattle.cw_text.specs.Syntax.{Declaration, Source, source_of}
 use Rattle.cw_text.specs.Lexemes.{Lexemes, comes, name as a_name, number as a_number, terminal, keywords, keywords_of, lexemes, rest_of}
-use Rattle.cw_text.specs.Grammar.{program_of, fault, fault_at}
+use Rattle.cw_text.specs.Grammar.{program_of, text_fault, fault_at}
 
 -- the line of a place: 1 and the number of newlines before it
 abbrev pub line_of : (place : ℕ) (text : List ℕ) → ℕ
@@ -24,13 +24,13 @@ is_headed (comes (a_name n) l xs) = bytes_eq n (codes "language")
 is_headed xs = false
 
 -- the end of that line
-abbrev pub ended : (language : ℕ) → Lexemes → Result ℕ TextFault
-ended n (comes (terminal m.Semicolon) l xs) = Ok n
-ended n xs = Err (fault_at xs)
+abbrev pub line_ended : (language : ℕ) → Lexemes → Result ℕ TextFault
+line_ended n (comes (terminal m.Semicolon) l xs) = Ok n
+line_ended n xs = Err (fault_at xs)
 
 -- its number, from 1 to the newest that is read
 abbrev pub numbered : (newest : ℕ) → Lexemes → Result ℕ TextFault
-numbered newest (comes (a_number n) l xs) = if nat_le 1 n && nat_le n newest then ended n xs else fault Unexpected l
+numbered newest (comes (a_number n) l xs) = if nat_le 1 n && nat_le n newest then line_ended n xs else text_fault Unexpected l
 numbered newest xs = Err (fault_at xs)
 
 -- A text without that line is of language 1.
@@ -56,8 +56,8 @@ source_in (Err f) text = Err f
 -- its length comes first, then its characters, then its language, then its tokens.
 abbrev pub reading : (newest most : ℕ) → List ℕ → Result Source TextFault
 reading newest most text =
-    if nat_lt most (length text) then fault TooLong 0
-    else (if nat_lt (utf8_valid_len text) (length text) then fault NotUtf8 (line_of (utf8_valid_len text) text)
+    if nat_lt most (length text) then text_fault TooLong 0
+    else (if nat_lt (utf8_valid_len text) (length text) then text_fault NotUtf8 (line_of (utf8_valid_len text) text)
     else source_in (language_of newest (lexemes keywords text)) text)
 
 -- the source that a text is, or the text's first fault

@@ -1,5 +1,5 @@
 ghost use Rattle.std.specs.Prelude.{◌≡◌, ◌≤◌, ◌<◌, ◌∷◌, [], true, false, List, OnOk, IfSome, IfNone};
-ghost use Rattle.cw_text.specs.Cursor.{count_of};
+ghost use Rattle.cw_text.specs.Cursor.{count_of_lexemes};
 ghost use Rattle.cw_text.specs.Lexemes.{rest_of};
 ghost use Rattle.cw_text.specs.Grammar.{Symbol, Values, a_term, act, arg_done, args, brackets, call_done, closing, comparison, expr, index_done, join, lifted, more_args, operand, pending, products, push, read, read_from, some_terms, sums, word_at};
 ghost use Rattle.cw_text.specs.Lexemes.{Lexemes};
@@ -40,7 +40,7 @@ impl<'a> Parser<'a> {
     fn operand(&mut self) -> Result<Measured, TextRefusal>
         requires { self.old.depth ≤ 200 }
         ensures same { OnOk result (self.new.depth ≡ self.old.depth) }
-        ensures shorter { OnOk result (count_of (ahead self.new) < count_of (ahead self.old)) }
+        ensures shorter { OnOk result (count_of_lexemes (ahead self.new) < count_of_lexemes (ahead self.old)) }
         ensures read { Parses result self.old.depth (operand ∷ [])
             (λ e. push (a_term (term_of e.expr))) (ahead self.old) (ahead self.new) }
     {
@@ -68,7 +68,7 @@ impl<'a> Parser<'a> {
     fn named(&mut self, letters: Letters<'a>) -> Result<Measured, TextRefusal>
         requires { self.old.depth ≤ 200 }
         ensures same { OnOk result (self.new.depth ≡ self.old.depth) }
-        ensures shorter { OnOk result (count_of (ahead self.new) ≤ count_of (rest_of (ahead self.old))) }
+        ensures shorter { OnOk result (count_of_lexemes (ahead self.new) ≤ count_of_lexemes (rest_of (ahead self.old))) }
         ensures read { let line = self.old.cursor.line in
             let word = word_at letters.entry.bytes.now line in
             Parses result self.old.depth (act (push (a_term (a_name word))) ∷ brackets line ∷ [])
@@ -98,7 +98,7 @@ impl<'a> Parser<'a> {
     pub(crate) fn arguments(&mut self) -> Result<Arguments, TextRefusal>
         requires { self.old.depth ≤ 200 }
         ensures same { OnOk result (self.new.depth ≡ self.old.depth) }
-        ensures shorter { OnOk result (count_of (ahead self.new) < count_of (rest_of (ahead self.old))) }
+        ensures shorter { OnOk result (count_of_lexemes (ahead self.new) < count_of_lexemes (rest_of (ahead self.old))) }
         ensures read { (k : List Symbol) (vs : Values) → pending k ≡ self.old.depth →
             let line = self.old.cursor.line in
             GoesOn result (taken (act (push (some_terms none)) ∷ args ∷ closing Terminal.ParenClose ∷ k) vs line (ahead self.old))
@@ -117,7 +117,7 @@ impl<'a> Parser<'a> {
     fn argument_list(&mut self) -> Result<Arguments, TextRefusal>
         requires { self.old.depth ≤ 200 }
         ensures same { OnOk result (self.new.depth ≡ self.old.depth) }
-        ensures shorter { OnOk result (count_of (ahead self.new) ≤ count_of (ahead self.old)) }
+        ensures shorter { OnOk result (count_of_lexemes (ahead self.new) ≤ count_of_lexemes (ahead self.old)) }
         ensures read { (k : List Symbol) (vs : Values) → pending k ≡ self.old.depth →
             GoesOn result (read (args ∷ k) (some_terms none ∷ vs) (ahead self.old))
             (λ a. read k (some_terms (terms_of a.list.items) ∷ vs)) (ahead self.new) }
@@ -156,7 +156,7 @@ impl<'a> Parser<'a> {
     fn prefixed(&mut self, op: Op) -> Result<Measured, TextRefusal>
         requires { self.old.depth ≤ 200 }
         ensures same { OnOk result (self.new.depth ≡ self.old.depth) }
-        ensures shorter { OnOk result (count_of (ahead self.new) < count_of (rest_of (ahead self.old))) }
+        ensures shorter { OnOk result (count_of_lexemes (ahead self.new) < count_of_lexemes (rest_of (ahead self.old))) }
         ensures read { (k : List Symbol) (vs : Values) → pending k ≡ self.old.depth →
             let line = self.old.cursor.line in
             GoesOn result (taken (operand ∷ lifted op line ∷ k) vs line (ahead self.old))
@@ -184,7 +184,7 @@ impl<'a> Parser<'a> {
     pub(crate) fn bracketed(&mut self, close: Terminal) -> Result<Measured, TextRefusal>
         requires { self.old.depth ≤ 200 }
         ensures same { OnOk result (self.new.depth ≡ self.old.depth) }
-        ensures shorter { OnOk result (count_of (ahead self.new) < count_of (rest_of (ahead self.old))) }
+        ensures shorter { OnOk result (count_of_lexemes (ahead self.new) < count_of_lexemes (rest_of (ahead self.old))) }
         ensures read { (k : List Symbol) (vs : Values) → pending k ≡ self.old.depth →
             let line = self.old.cursor.line in
             GoesOn result (taken (expr ∷ closing close ∷ k) vs line (ahead self.old))
@@ -203,7 +203,7 @@ impl<'a> Parser<'a> {
     pub(crate) fn expr(&mut self) -> Result<Measured, TextRefusal>
         requires { self.old.depth ≤ 200 }
         ensures same { OnOk result (self.new.depth ≡ self.old.depth) }
-        ensures shorter { OnOk result (count_of (ahead self.new) < count_of (ahead self.old)) }
+        ensures shorter { OnOk result (count_of_lexemes (ahead self.new) < count_of_lexemes (ahead self.old)) }
         ensures read { Parses result self.old.depth (expr ∷ [])
             (λ e. push (a_term (term_of e.expr))) (ahead self.old) (ahead self.new) }
     {
@@ -225,7 +225,7 @@ impl<'a> Parser<'a> {
     fn sum(&mut self) -> Result<Measured, TextRefusal>
         requires { self.old.depth ≤ 200 }
         ensures same { OnOk result (self.new.depth ≡ self.old.depth) }
-        ensures shorter { OnOk result (count_of (ahead self.new) < count_of (ahead self.old)) }
+        ensures shorter { OnOk result (count_of_lexemes (ahead self.new) < count_of_lexemes (ahead self.old)) }
         ensures read { Parses result self.old.depth (operand ∷ products ∷ sums ∷ [])
             (λ e. push (a_term (term_of e.expr))) (ahead self.old) (ahead self.new) }
     {
@@ -245,7 +245,7 @@ impl<'a> Parser<'a> {
     fn product(&mut self) -> Result<Measured, TextRefusal>
         requires { self.old.depth ≤ 200 }
         ensures same { OnOk result (self.new.depth ≡ self.old.depth) }
-        ensures shorter { OnOk result (count_of (ahead self.new) < count_of (ahead self.old)) }
+        ensures shorter { OnOk result (count_of_lexemes (ahead self.new) < count_of_lexemes (ahead self.old)) }
         ensures read { Parses result self.old.depth (operand ∷ products ∷ [])
             (λ e. push (a_term (term_of e.expr))) (ahead self.old) (ahead self.new) }
     {

@@ -1,5 +1,5 @@
 ghost use Rattle.std.specs.Prelude.{◌≡◌, ◌≤◌, ◌<◌, ◌++◌, ◌∷◌, [], List, OnOk, IfOk, OnSome, pos};
-ghost use Rattle.cw_text.specs.Cursor.{count_of};
+ghost use Rattle.cw_text.specs.Cursor.{count_of_lexemes};
 ghost use Rattle.cw_text.specs.Lexemes.{rest_of};
 ghost use Rattle.cw_text.specs.Grammar.{Symbol, Values, a_size, act, an_init, block, cell_done, cell_init, cell_size, closing, declared, exactly, func_done, init, items, negated, params, pending, push, read, size, some_words, word};
 ghost use Rattle.cw_text.specs.Parser.{GoesOn, ahead, item_read};
@@ -17,7 +17,7 @@ impl<'a> Parser<'a> {
         requires { self.old.depth < 200 }
         ensures same { OnOk result (self.new.depth ≡ self.old.depth) }
         ensures shorter { IfOk result (λ i. OnSome i
-            (count_of (ahead self.new) < count_of (ahead self.old))) }
+            (count_of_lexemes (ahead self.new) < count_of_lexemes (ahead self.old))) }
         ensures read { (k : List Symbol) (vs : Values) (ds : List Declaration) → pending k ≡ self.old.depth →
             GoesOn result (read (items ∷ k) (declared ds ∷ vs) (ahead self.old))
             (item_read k vs ds) (ahead self.new) }
@@ -35,7 +35,7 @@ impl<'a> Parser<'a> {
     fn cell(&mut self) -> Result<Item, TextRefusal>
         requires { self.old.depth < 200 }
         ensures same { OnOk result (self.new.depth ≡ self.old.depth) }
-        ensures shorter { OnOk result (count_of (ahead self.new) < count_of (rest_of (ahead self.old))) }
+        ensures shorter { OnOk result (count_of_lexemes (ahead self.new) < count_of_lexemes (rest_of (ahead self.old))) }
         ensures read { (k : List Symbol) (vs : Values) (ds : List Declaration) → pending k ≡ self.old.depth →
             let parts = word ∷ act (push (a_size 0)) ∷ cell_size ∷ act (push (an_init (pos 0))) ∷ cell_init ∷ exactly Terminal.Semicolon ∷ act cell_done ∷ k in
             GoesOn result (read parts (declared ds ∷ vs) (rest_of (ahead self.old)))
@@ -59,7 +59,7 @@ impl<'a> Parser<'a> {
     fn cell_size(&mut self) -> Result<u64, TextRefusal>
         requires { self.old.depth < 200 }
         ensures same { OnOk result (self.new.depth ≡ self.old.depth) }
-        ensures shorter { OnOk result (count_of (ahead self.new) ≤ count_of (ahead self.old)) }
+        ensures shorter { OnOk result (count_of_lexemes (ahead self.new) ≤ count_of_lexemes (ahead self.old)) }
         ensures read { (k : List Symbol) (vs : Values) → pending k ≡ self.old.depth →
             GoesOn result (read (cell_size ∷ k) (a_size 0 ∷ vs) (ahead self.old))
             (λ n. read k (a_size n ∷ vs)) (ahead self.new) }
@@ -80,7 +80,7 @@ impl<'a> Parser<'a> {
     fn size(&mut self) -> Result<u64, TextRefusal>
         requires { self.old.depth ≤ 200 }
         ensures same { OnOk result (self.new.depth ≡ self.old.depth) }
-        ensures shorter { OnOk result (count_of (ahead self.new) < count_of (ahead self.old)) }
+        ensures shorter { OnOk result (count_of_lexemes (ahead self.new) < count_of_lexemes (ahead self.old)) }
         ensures read { (k : List Symbol) (vs : Values) → pending k ≡ self.old.depth →
             GoesOn result (read (size ∷ k) (a_size 0 ∷ vs) (ahead self.old))
             (λ n. read k (a_size n ∷ vs)) (ahead self.new) }
@@ -101,7 +101,7 @@ impl<'a> Parser<'a> {
     fn initial_value(&mut self) -> Result<i64, TextRefusal>
         requires { self.old.depth < 200 }
         ensures same { OnOk result (self.new.depth ≡ self.old.depth) }
-        ensures shorter { OnOk result (count_of (ahead self.new) ≤ count_of (ahead self.old)) }
+        ensures shorter { OnOk result (count_of_lexemes (ahead self.new) ≤ count_of_lexemes (ahead self.old)) }
         ensures read { (k : List Symbol) (vs : Values) → pending k ≡ self.old.depth →
             GoesOn result (read (cell_init ∷ k) (an_init (pos 0) ∷ vs) (ahead self.old))
             (λ n. read k (an_init n ∷ vs)) (ahead self.new) }
@@ -119,7 +119,7 @@ impl<'a> Parser<'a> {
     fn signed(&mut self) -> Result<i64, TextRefusal>
         requires { self.old.depth < 200 }
         ensures same { OnOk result (self.new.depth ≡ self.old.depth) }
-        ensures shorter { OnOk result (count_of (ahead self.new) ≤ count_of (ahead self.old)) }
+        ensures shorter { OnOk result (count_of_lexemes (ahead self.new) ≤ count_of_lexemes (ahead self.old)) }
         ensures read { (k : List Symbol) (vs : Values) → pending k ≡ self.old.depth →
             GoesOn result (read (init ∷ k) (an_init (pos 0) ∷ vs) (ahead self.old))
             (λ n. read k (an_init n ∷ vs)) (ahead self.new) }
@@ -141,7 +141,7 @@ impl<'a> Parser<'a> {
     fn negated(&mut self) -> Result<i64, TextRefusal>
         requires { self.old.depth < 200 }
         ensures same { OnOk result (self.new.depth ≡ self.old.depth) }
-        ensures shorter { OnOk result (count_of (ahead self.new) ≤ count_of (ahead self.old)) }
+        ensures shorter { OnOk result (count_of_lexemes (ahead self.new) ≤ count_of_lexemes (ahead self.old)) }
         ensures read { (k : List Symbol) (vs : Values) → pending k ≡ self.old.depth →
             GoesOn result (read (negated ∷ k) (an_init (pos 0) ∷ vs) (ahead self.old))
             (λ n. read k (an_init n ∷ vs)) (ahead self.new) }
@@ -160,7 +160,7 @@ impl<'a> Parser<'a> {
     fn function(&mut self) -> Result<Item, TextRefusal>
         requires { self.old.depth < 200 }
         ensures same { OnOk result (self.new.depth ≡ self.old.depth) }
-        ensures shorter { OnOk result (count_of (ahead self.new) < count_of (rest_of (ahead self.old))) }
+        ensures shorter { OnOk result (count_of_lexemes (ahead self.new) < count_of_lexemes (rest_of (ahead self.old))) }
         ensures read { (k : List Symbol) (vs : Values) (ds : List Declaration) → pending k ≡ self.old.depth →
             let parts = word ∷ exactly Terminal.ParenOpen ∷ act (push (some_words [])) ∷ params ∷ closing Terminal.ParenClose ∷ block ∷ act func_done ∷ k in
             GoesOn result (read parts (declared ds ∷ vs) (rest_of (ahead self.old)))
@@ -184,7 +184,7 @@ impl<'a> Parser<'a> {
     #[tactic(auto, using(crate::proofs::Steps::steps))]
     fn params(&mut self) -> Result<Vec<Word>, TextRefusal>
         ensures same { OnOk result (self.new.depth ≡ self.old.depth) }
-        ensures shorter { OnOk result (count_of (ahead self.new) ≤ count_of (ahead self.old)) }
+        ensures shorter { OnOk result (count_of_lexemes (ahead self.new) ≤ count_of_lexemes (ahead self.old)) }
         ensures read { (k : List Symbol) (vs : Values) → pending k ≤ 200 →
             GoesOn result (read (params ∷ k) (some_words [] ∷ vs) (ahead self.old))
             (λ ws. read k (some_words ws.items ∷ vs)) (ahead self.new) }

@@ -1,9 +1,9 @@
 ghost use Rattle.std.specs.Prelude.{◌≡◌, ◌≤◌, ◌<◌, ◌+◌, ◌^◌, length, List, ◌∷◌, IfOk, OnOk};
-ghost use Rattle.cw_text.specs.Cursor.{count_of, tokens_left};
+ghost use Rattle.cw_text.specs.Cursor.{count_of_lexemes, tokens_left};
 ghost use Rattle.cw_text.specs.Lexemes.{keywords, lexemes, rest_of};
 ghost use Rattle.cw_text.specs.Grammar.{Symbol, Values, a_word, exactly, fault_at, pending, program_of, read, word, word_at};
 ghost use Rattle.cw_text.specs.Parser.{GoesOn, IsLanguage, ReadsItems, ahead, taken};
-ghost use Rattle.cw_text.specs.Text.{Reads, ended, language_of, numbered, source_in};
+ghost use Rattle.cw_text.specs.Text.{Reads, line_ended, language_of, numbered, source_in};
 
 use crate::cursor::{Cursor, Token};
 use crate::letters::Letters;
@@ -53,7 +53,7 @@ impl<'a> Parser<'a> {
     /// Takes this terminal.
     pub(crate) fn expect(&mut self, terminal: Terminal) -> Result<(), TextRefusal>
         ensures same { OnOk result (self.new.depth ≡ self.old.depth) }
-        ensures shorter { OnOk result (count_of (ahead self.new) < count_of (ahead self.old)) }
+        ensures shorter { OnOk result (count_of_lexemes (ahead self.new) < count_of_lexemes (ahead self.old)) }
         ensures read { (k : List Symbol) (vs : Values) → pending k ≤ 200 →
             GoesOn result (read (exactly terminal ∷ k) vs (ahead self.old))
             (λ _. read k vs) (ahead self.new) }
@@ -71,7 +71,7 @@ impl<'a> Parser<'a> {
     /// Takes a name.
     pub(crate) fn word(&mut self) -> Result<Word, TextRefusal>
         ensures same { OnOk result (self.new.depth ≡ self.old.depth) }
-        ensures shorter { OnOk result (count_of (ahead self.new) < count_of (ahead self.old)) }
+        ensures shorter { OnOk result (count_of_lexemes (ahead self.new) < count_of_lexemes (ahead self.old)) }
         ensures read { (k : List Symbol) (vs : Values) → pending k ≤ 200 →
             GoesOn result (read (word ∷ k) vs (ahead self.old))
             (λ w. read k (a_word w ∷ vs)) (ahead self.new) }
@@ -97,7 +97,7 @@ impl<'a> Parser<'a> {
 
 // The end of the line that says in which language a text is.
 fn ended(cursor: &Cursor<'_>, language: u32) -> Result<u32, TextRefusal>
-    ensures { IsLanguage result (ended language (tokens_left cursor.now)) }
+    ensures { IsLanguage result (line_ended language (tokens_left cursor.now)) }
 {
     match cursor.token {
         Token::Terminal(Terminal::Semicolon) => Ok(language),

@@ -1,6 +1,6 @@
 ghost use Rattle.std.specs.Prelude.{◌≡◌, ◌∷◌, [], ◌++◌, if◌then◌else◌, IfOk, OnOk, pos};
 ghost use Rattle.cw_text.specs.Lexemes.{terminal as terminal_token};
-ghost use Rattle.cw_text.specs.Printed.{declaration_tokens, else_tokens, heading_tokens, in_braces, in_parens, in_squares, init_tokens, named, number_tokens, of_left, of_right, sign, size_tokens, statement_tokens, statements_tokens, term_tokens, terms_tokens, terminal_of, tightness, value_tokens, word_tokens, words_tokens};
+ghost use Rattle.cw_text.specs.Printed.{declaration_tokens, else_tokens, heading_tokens, in_braces, in_parens, in_squares, init_tokens, name_on_line, number_tokens, of_left, of_right, sign, size_tokens, statement_tokens, statements_tokens, term_tokens, terms_tokens, terminal_of, tightness, value_tokens, word_tokens, words_tokens};
 ghost use Rattle.cw_text.specs.PrintedText.{blank_behind, printed_text, with_tokens};
 ghost use Rattle.cw_text.specs.Syntax.{block_of, declaration_of, statement_of, term_of, terms_of, source_of, cell, func};
 ghost use Rattle.cw_text.specs.declared.terminal.Terminal.TheVariants as Terminal;
@@ -84,7 +84,7 @@ impl Printer {
     }
 
     fn name(&mut self, name: &Text, line: u32) -> Result<(), OutOfMemory>
-        ensures { OnOk result (self.new ≡ with_tokens self.old (named name.now line)) }
+        ensures { OnOk result (self.new ≡ with_tokens self.old (name_on_line name.now line)) }
     {
         self.token(name.as_bytes(), b' ')
     }

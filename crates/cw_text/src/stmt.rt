@@ -1,5 +1,5 @@
 ghost use Rattle.std.specs.Prelude.{◌≡◌, ◌≤◌, ◌<◌, ◌∷◌, [], List, OnOk, IfNone, IfOk, OnSome};
-ghost use Rattle.cw_text.specs.Cursor.{count_of};
+ghost use Rattle.cw_text.specs.Cursor.{count_of_lexemes};
 ghost use Rattle.cw_text.specs.Lexemes.{rest_of};
 ghost use Rattle.cw_text.specs.Grammar.{Symbol, Values, a_block, a_line, a_term, a_word, act, assignment, atomic_done, block, choose_done, exactly, expr, let_done, otherwise, out_done, pending, push, read, repeat_done, return_done, cancel_done, spawn_done, stated, stmts, sync_done, word, word_at};
 ghost use Rattle.cw_text.specs.Parser.{GoesOn, Parses, ahead, statement_read};
@@ -18,7 +18,7 @@ impl<'a> Parser<'a> {
     pub(crate) fn block(&mut self) -> Result<Vec<Stmt>, TextRefusal>
         requires { self.old.depth ≤ 200 }
         ensures same { OnOk result (self.new.depth ≡ self.old.depth) }
-        ensures shorter { OnOk result (count_of (ahead self.new) < count_of (ahead self.old)) }
+        ensures shorter { OnOk result (count_of_lexemes (ahead self.new) < count_of_lexemes (ahead self.old)) }
         ensures read { Parses result self.old.depth (block ∷ [])
             (λ b. push (a_block (block_of b.items))) (ahead self.old) (ahead self.new) }
     {
@@ -42,7 +42,7 @@ impl<'a> Parser<'a> {
         requires { self.old.depth ≤ 200 }
         ensures same { OnOk result (self.new.depth ≡ self.old.depth) }
         ensures shorter { IfOk result (λ s. OnSome s
-            (count_of (ahead self.new) < count_of (ahead self.old))) }
+            (count_of_lexemes (ahead self.new) < count_of_lexemes (ahead self.old))) }
         ensures unmoved { IfOk result (λ s. IfNone s (self.new ≡ self.old)) }
         ensures read { (k : List Symbol) (vs : Values) → pending k ≡ self.old.depth →
             GoesOn result (read (stmts ∷ k) vs (ahead self.old)) (statement_read k vs) (ahead self.new) }
@@ -66,7 +66,7 @@ impl<'a> Parser<'a> {
     fn let_statement(&mut self) -> Result<Stmt, TextRefusal>
         requires { self.old.depth ≤ 200 }
         ensures same { OnOk result (self.new.depth ≡ self.old.depth) }
-        ensures shorter { OnOk result (count_of (ahead self.new) < count_of (rest_of (ahead self.old))) }
+        ensures shorter { OnOk result (count_of_lexemes (ahead self.new) < count_of_lexemes (rest_of (ahead self.old))) }
         ensures read { Parses result self.old.depth
             (word ∷ exactly Terminal.Assign ∷ expr ∷ exactly Terminal.Semicolon ∷ act let_done ∷ [])
             (λ s. stated (statement_of s)) (rest_of (ahead self.old)) (ahead self.new) }
@@ -81,7 +81,7 @@ impl<'a> Parser<'a> {
     fn out_statement(&mut self) -> Result<Stmt, TextRefusal>
         requires { self.old.depth ≤ 200 }
         ensures same { OnOk result (self.new.depth ≡ self.old.depth) }
-        ensures shorter { OnOk result (count_of (ahead self.new) < count_of (rest_of (ahead self.old))) }
+        ensures shorter { OnOk result (count_of_lexemes (ahead self.new) < count_of_lexemes (rest_of (ahead self.old))) }
         ensures read { Parses result self.old.depth (expr ∷ exactly Terminal.Semicolon ∷ act out_done ∷ [])
             (λ s. stated (statement_of s)) (rest_of (ahead self.old)) (ahead self.new) }
     {
@@ -97,7 +97,7 @@ impl<'a> Parser<'a> {
     fn if_statement(&mut self) -> Result<Stmt, TextRefusal>
         requires { self.old.depth ≤ 200 }
         ensures same { OnOk result (self.new.depth ≡ self.old.depth) }
-        ensures shorter { OnOk result (count_of (ahead self.new) < count_of (rest_of (ahead self.old))) }
+        ensures shorter { OnOk result (count_of_lexemes (ahead self.new) < count_of_lexemes (rest_of (ahead self.old))) }
         ensures read { Parses result self.old.depth
             (expr ∷ block ∷ act (push (a_block empty)) ∷ otherwise ∷ act choose_done ∷ [])
             (λ s. stated (statement_of s)) (rest_of (ahead self.old)) (ahead self.new) }
@@ -115,7 +115,7 @@ impl<'a> Parser<'a> {
     fn otherwise(&mut self) -> Result<Vec<Stmt>, TextRefusal>
         requires { self.old.depth ≤ 200 }
         ensures same { OnOk result (self.new.depth ≡ self.old.depth) }
-        ensures shorter { OnOk result (count_of (ahead self.new) ≤ count_of (ahead self.old)) }
+        ensures shorter { OnOk result (count_of_lexemes (ahead self.new) ≤ count_of_lexemes (ahead self.old)) }
         ensures read { (k : List Symbol) (vs : Values) → pending k ≡ self.old.depth →
             GoesOn result (read (otherwise ∷ k) (a_block empty ∷ vs) (ahead self.old))
             (λ b. read k (a_block (block_of b.items) ∷ vs)) (ahead self.new) }
@@ -135,7 +135,7 @@ impl<'a> Parser<'a> {
     fn while_statement(&mut self) -> Result<Stmt, TextRefusal>
         requires { self.old.depth ≤ 200 }
         ensures same { OnOk result (self.new.depth ≡ self.old.depth) }
-        ensures shorter { OnOk result (count_of (ahead self.new) < count_of (rest_of (ahead self.old))) }
+        ensures shorter { OnOk result (count_of_lexemes (ahead self.new) < count_of_lexemes (rest_of (ahead self.old))) }
         ensures read { Parses result self.old.depth (expr ∷ block ∷ act repeat_done ∷ [])
             (λ s. stated (statement_of s)) (rest_of (ahead self.old)) (ahead self.new) }
     {
@@ -151,7 +151,7 @@ impl<'a> Parser<'a> {
     fn atomic_statement(&mut self) -> Result<Stmt, TextRefusal>
         requires { self.old.depth ≤ 200 }
         ensures same { OnOk result (self.new.depth ≡ self.old.depth) }
-        ensures shorter { OnOk result (count_of (ahead self.new) < count_of (rest_of (ahead self.old))) }
+        ensures shorter { OnOk result (count_of_lexemes (ahead self.new) < count_of_lexemes (rest_of (ahead self.old))) }
         ensures read { Parses result self.old.depth (block ∷ act atomic_done ∷ [])
             (λ s. stated (statement_of s)) (rest_of (ahead self.old)) (ahead self.new) }
     {
@@ -166,7 +166,7 @@ impl<'a> Parser<'a> {
     fn spawn_statement(&mut self) -> Result<Stmt, TextRefusal>
         requires { self.old.depth ≤ 200 }
         ensures same { OnOk result (self.new.depth ≡ self.old.depth) }
-        ensures shorter { OnOk result (count_of (ahead self.new) < count_of (rest_of (ahead self.old))) }
+        ensures shorter { OnOk result (count_of_lexemes (ahead self.new) < count_of_lexemes (rest_of (ahead self.old))) }
         ensures read { Parses result self.old.depth (block ∷ act spawn_done ∷ [])
             (λ s. stated (statement_of s)) (rest_of (ahead self.old)) (ahead self.new) }
     {
@@ -179,7 +179,7 @@ impl<'a> Parser<'a> {
     fn sync_statement(&mut self) -> Result<Stmt, TextRefusal>
         requires { self.old.depth ≤ 200 }
         ensures same { OnOk result (self.new.depth ≡ self.old.depth) }
-        ensures shorter { OnOk result (count_of (ahead self.new) < count_of (rest_of (ahead self.old))) }
+        ensures shorter { OnOk result (count_of_lexemes (ahead self.new) < count_of_lexemes (rest_of (ahead self.old))) }
         ensures read { Parses result self.old.depth (exactly Terminal.Semicolon ∷ act sync_done ∷ [])
             (λ s. stated (statement_of s)) (rest_of (ahead self.old)) (ahead self.new) }
     {
@@ -193,7 +193,7 @@ impl<'a> Parser<'a> {
     fn cancel_statement(&mut self) -> Result<Stmt, TextRefusal>
         requires { self.old.depth ≤ 200 }
         ensures same { OnOk result (self.new.depth ≡ self.old.depth) }
-        ensures shorter { OnOk result (count_of (ahead self.new) < count_of (rest_of (ahead self.old))) }
+        ensures shorter { OnOk result (count_of_lexemes (ahead self.new) < count_of_lexemes (rest_of (ahead self.old))) }
         ensures read { Parses result self.old.depth
             (act (push (a_line self.old.cursor.line)) ∷ exactly Terminal.Semicolon ∷ act cancel_done ∷ [])
             (λ s. stated (statement_of s)) (rest_of (ahead self.old)) (ahead self.new) }
@@ -209,7 +209,7 @@ impl<'a> Parser<'a> {
     fn return_statement(&mut self) -> Result<Stmt, TextRefusal>
         requires { self.old.depth ≤ 200 }
         ensures same { OnOk result (self.new.depth ≡ self.old.depth) }
-        ensures shorter { OnOk result (count_of (ahead self.new) < count_of (rest_of (ahead self.old))) }
+        ensures shorter { OnOk result (count_of_lexemes (ahead self.new) < count_of_lexemes (rest_of (ahead self.old))) }
         ensures read { Parses result self.old.depth
             (act (push (a_line self.old.cursor.line)) ∷ expr ∷ exactly Terminal.Semicolon ∷ act return_done ∷ [])
             (λ s. stated (statement_of s)) (rest_of (ahead self.old)) (ahead self.new) }
@@ -226,7 +226,7 @@ impl<'a> Parser<'a> {
     fn named_statement(&mut self, letters: Letters<'a>) -> Result<Stmt, TextRefusal>
         requires { self.old.depth ≤ 200 }
         ensures same { OnOk result (self.new.depth ≡ self.old.depth) }
-        ensures shorter { OnOk result (count_of (ahead self.new) < count_of (rest_of (ahead self.old))) }
+        ensures shorter { OnOk result (count_of_lexemes (ahead self.new) < count_of_lexemes (rest_of (ahead self.old))) }
         ensures read { let name = word_at letters.entry.bytes.now self.old.cursor.line in
             Parses result self.old.depth
             (act (push (a_word name)) ∷ assignment ∷ [])
@@ -256,7 +256,7 @@ impl<'a> Parser<'a> {
     fn assigned_value(&mut self) -> Result<Expr, TextRefusal>
         requires { self.old.depth ≤ 200 }
         ensures same { OnOk result (self.new.depth ≡ self.old.depth) }
-        ensures shorter { OnOk result (count_of (ahead self.new) < count_of (ahead self.old)) }
+        ensures shorter { OnOk result (count_of_lexemes (ahead self.new) < count_of_lexemes (ahead self.old)) }
         ensures read { Parses result self.old.depth (exactly Terminal.Assign ∷ expr ∷ exactly Terminal.Semicolon ∷ [])
             (λ e. push (a_term (term_of e))) (ahead self.old) (ahead self.new) }
     {

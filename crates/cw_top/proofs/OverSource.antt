@@ -16,7 +16,7 @@ use Rattle.cw_words.specs.declared.command.Command.{Command}
 use Rattle.cw_words.specs.declared.command.Command.TheVariants.{Run, Sim, Load}
 use Rattle.cw_top.specs.Runs.{IsRunBy, IsRunOf}
 use Rattle.cw_top.specs.OverSource.{IsRunOfSource, IsRunOfSyntax, IsRunOfDeclarations}
-use Rattle.cw_top.specs.Refusals.{Spells, newest}
+use Rattle.cw_top.specs.Refusals.{Spells, newest_language}
 use Rattle.cw_words.specs.Words.{limits_of, words_of}
 
 of_tree : (co : Command) (left : Option (List ℕ)) (ds : List Declaration) (r : Record) → IsProgramOf ds r.program → IsRunBy co left r → IsReplayed r → IsRunOfDeclarations (words_of co) (limits_of co) ds r
@@ -31,7 +31,7 @@ of_tree co left ds r is run same =
       replays = subst (P (words_of co)) run.limits (subst (λ ws. P ws r.limits) run.words replays);
     }
 
-of_syntax : (co : Command) (bytes : List ℕ) (r : Record) → Spells (newest co) bytes r.program → IsRunBy co (Some bytes) r → IsReplayed r → IsRunOfSyntax (newest co) (words_of co) (limits_of co) bytes r
+of_syntax : (co : Command) (bytes : List ℕ) (r : Record) → Spells (newest_language co) bytes r.program → IsRunBy co (Some bytes) r → IsReplayed r → IsRunOfSyntax (newest_language co) (words_of co) (limits_of co) bytes r
 of_syntax co bytes r (source, (spelled, is)) run same = (source, spelled, of_tree co (Some bytes) source.items r is run same)
 
 pub of_source : (command : Option Command) (left : Option (List ℕ)) (kept : Option Record) → IfSome kept (IsRunOf command left) → IfSome kept IsReplayed → IfSome kept (IsRunOfSource command left)

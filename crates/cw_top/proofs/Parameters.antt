@@ -20,7 +20,7 @@ use Rattle.cw_words.specs.Words.{words_of}
 use Rattle.cw_top.specs.declared.outcome.Note.TheVariants.{Usage}
 use Rattle.cw_top.specs.Outcome.{HasCause}
 use Rattle.cw_top.specs.Runs.{IsItsProgram}
-use Rattle.cw_top.specs.Refusals.{AsksFor, IsMisfit, Spells, named, of_reading, refusal}
+use Rattle.cw_top.specs.Refusals.{AsksFor, IsMisfit, Spells, note_of_fault, of_reading, refusal}
 
 module _ (ds : List Declaration) (p : Program) (is : IsProgramOf ds p) (n : ℕ) where
   code_takes : MainTakes ds n → TakesWords p n
@@ -43,7 +43,7 @@ module _ (l n : ℕ) (bytes : List ℕ) (p : Program) (spells : Spells l bytes p
 
 -- bytes that spell a program are not refused
 pub spelled_accepted : (l : ℕ) (bytes : List ℕ) (p : Program) → Spells l bytes p → refusal l bytes ≡ None
-spelled_accepted l bytes p spells = ap of_reading spells.1.0 ∙ ap named spells.1.1.named
+spelled_accepted l bytes p spells = ap of_reading spells.1.0 ∙ ap note_of_fault spells.1.1.named
 
 -- the words do not fit where the program takes another number of them
 pub misfits : (l : ℕ) (left : Option (List ℕ)) (words : List ℤ) (p : Program) → IfSome left (λ bytes. Spells l bytes p) → (TakesWords p (length words) → ⊥) → IfSome left (IsMisfit l words)

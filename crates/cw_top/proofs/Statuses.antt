@@ -30,7 +30,7 @@ use Rattle.cw_top.specs.declared.telling.Telling.TheVariants.{Results, Summary}
 use Rattle.cw_top.specs.Outcome.{HasCause, IsCauseOfRun, IsCauseOfTelling, IsMisused, IsRefusedWith, IsStatus, IsStatusOf, IsSurelyMisused, IsSurelyRefused, MayBeMisusedWith, MayEndWith, status_of_end, FailsToRead}
 use Rattle.cw_top.specs.Runs.{HasSeveralWorkers, IsDoneAs, IsDoneBy, IsOfMoves, IsOfThreads, IsReady, IsRunOf}
 use Rattle.cw_top.specs.Taken.{Accepts, IsRefusedFor, IsRefusedIn}
-use Rattle.cw_top.specs.Written.{Writes, WritesEndOfOneMemory, end_of_one_memory, end_text_in, telling_of, load_text_of, report_if, summary_text, text_in, text_of, text_owed}
+use Rattle.cw_top.specs.Written.{Writes, WritesEndOfOneMemory, end_of_one_memory, end_text_in, telling_of, load_text_of, report_if, summary_text, text_in, text_of_command, text_owed}
 
 -- words that are no command come to status 2
 of_none : (kept : Option Record) (status : ℕ) (n : Note) → n ≡ note.Usage → IsStatus kept status n → status ≡ 2
@@ -309,11 +309,11 @@ of_replay co r old new is tree replays written =
     let (memory, outputs, finishes, told) = of_telling (telling_of co) r old new is tree replays written in
     record { memory = memory; outputs = outputs; finishes = finishes; written = told }
 
-pub finished : (command : Option Command) (kept : Option Record) (status : ℕ) (n : Note) (left old new : Option (List ℕ)) → IsStatus kept status n → IfSome kept (IsRunOf command left) → Writes (text_owed (text_of command) kept status) n old new → status ≡ 0 → IsSomeAnd kept (λ r. WritesEndOfOneMemory command r old new)
+pub finished : (command : Option Command) (kept : Option Record) (status : ℕ) (n : Note) (left old new : Option (List ℕ)) → IsStatus kept status n → IfSome kept (IsRunOf command left) → Writes (text_owed (text_of_command command) kept status) n old new → status ≡ 0 → IsSomeAnd kept (λ r. WritesEndOfOneMemory command r old new)
 finished command None status note.Nothing left old new is run written zero = absurd is
 finished None (Some r) status note.Nothing left old new is run written zero = absurd run
 finished (Some co) (Some r) status note.Nothing left old new (inl (same, is)) run written zero =
-    of_replay co r old new (sym zero ∙ is) run.tree same (subst (λ s. Writes (text_owed (text_of (Some co)) (Some r) s) note.Nothing old new) zero written)
+    of_replay co r old new (sym zero ∙ is) run.tree same (subst (λ s. Writes (text_owed (text_of_command (Some co)) (Some r) s) note.Nothing old new) zero written)
 finished (Some co) (Some r) status note.Nothing left old new (inr (other, is)) run written zero = cc
 finished command kept status note.Usage left old new (none, is) run written zero = cc
 finished command kept status note.Memory left old new (none, is) run written zero = cc

@@ -9,7 +9,7 @@ use Rattle.cw_words.specs.declared.command.Command.TheVariants.{Run, Sim, Load}
 use Rattle.cw_words.specs.Words.{words_of}
 use Rattle.cw_top.specs.declared.outcome.Note.{Note}
 use Rattle.cw_top.specs.declared.outcome.Note.TheVariants as note
-use Rattle.cw_top.specs.Refusals.{IsMisfit, newest, refusal}
+use Rattle.cw_top.specs.Refusals.{IsMisfit, newest_language, refusal}
 use Rattle.cw_top.specs.Taken.{IsRefusedIn}
 
 -- ## The status, the note and the run
@@ -57,20 +57,20 @@ IsCauseOfTelling n write_failed = ⊥
 abbrev pub HasCause : Option Command → Note → (left : Option (List ℕ)) (read_failed write_failed : Type 0) → Type 0
 HasCause None n left read_failed write_failed = n ≡ note.Usage
 HasCause (Some (Load transfers workers)) n left read_failed write_failed = IsCauseOfTelling n write_failed
-HasCause (Some c) n left read_failed write_failed = IsCauseOfRun (newest c) (words_of c) n left read_failed write_failed
+HasCause (Some c) n left read_failed write_failed = IsCauseOfRun (newest_language c) (words_of c) n left read_failed write_failed
 
 -- where the words are of no use: they are no command, whatever the source is, or the source is not refused and asks for another
 -- number of them
 abbrev pub IsMisused : Option Command → (left : Option (List ℕ)) → Type 0
 IsMisused None left = Unit {0}
 IsMisused (Some (Load transfers workers)) left = ⊥
-IsMisused (Some c) left = IfSome left (IsMisfit (newest c) (words_of c))
+IsMisused (Some c) left = IfSome left (IsMisfit (newest_language c) (words_of c))
 
 -- The source's bytes are told, and the command is of no use for them.
 abbrev pub IsSurelyMisused : Option Command → (left : Option (List ℕ)) → Type 0
 IsSurelyMisused None left = Unit {0}
 IsSurelyMisused (Some (Load transfers workers)) left = ⊥
-IsSurelyMisused (Some c) left = IsSomeAnd left (IsMisfit (newest c) (words_of c))
+IsSurelyMisused (Some c) left = IsSomeAnd left (IsMisfit (newest_language c) (words_of c))
 
 -- A read of a command failed; words that are no command, and a load, read nothing.
 abbrev pub FailsToRead : Option Command → (read_failed : Type 0) → Type 0
@@ -87,7 +87,7 @@ MayBeMisusedWith (Some c) status = (status ≡ 2) ⊎ (status ≡ 1)
 abbrev pub IsSurelyRefused : Option Command → (left : Option (List ℕ)) → Note → Type 0
 IsSurelyRefused None left fault = ⊥
 IsSurelyRefused (Some (Load transfers workers)) left fault = ⊥
-IsSurelyRefused (Some c) left fault = IsSomeAnd left (λ bytes. refusal (newest c) bytes ≡ Some fault)
+IsSurelyRefused (Some c) left fault = IsSomeAnd left (λ bytes. refusal (newest_language c) bytes ≡ Some fault)
 
 -- what a source that is refused for this reason comes to, where no read fails
 abbrev pub IsRefusedWith : (fault : Note) → ℕ → Note → Type 0

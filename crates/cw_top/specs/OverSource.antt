@@ -13,7 +13,7 @@ use Rattle.cw_gen.specs.Load.{load_tree}
 use Rattle.cw_words.specs.declared.command.Command.{Command}
 use Rattle.cw_words.specs.declared.command.Command.TheVariants.{Load}
 use Rattle.cw_words.specs.Words.{default_limits, words_of, limits_of}
-use Rattle.cw_top.specs.Refusals.{newest}
+use Rattle.cw_top.specs.Refusals.{newest_language}
 
 -- A run of these declarations, with these words and limits: one memory that runs their strands, in the order that is kept, does at
 -- each step what the run's tree has there, each atomic block without a break, and comes to the end of the run.
@@ -34,7 +34,7 @@ IsRunOfSyntax language words limits bytes r = (source : Source) × (program lang
 abbrev pub IsRunOfSource : Option Command → (left : Option (List ℕ)) → Record → Type 0
 IsRunOfSource None left r = ⊥
 IsRunOfSource (Some (Load transfers workers)) left r = IsRunOfDeclarations [] default_limits (load_tree transfers) r
-IsRunOfSource (Some c) left r = IfSome left (λ bytes. IsRunOfSyntax (newest c) (words_of c) (limits_of c) bytes r)
+IsRunOfSource (Some c) left r = IfSome left (λ bytes. IsRunOfSyntax (newest_language c) (words_of c) (limits_of c) bytes r)
 
 -- The tree that these bytes spell has a `spawn` somewhere in a function.
 abbrev pub Spawns : (language : ℕ) → List ℕ → Type 0

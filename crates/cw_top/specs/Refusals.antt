@@ -14,16 +14,16 @@ use Rattle.cw_top.specs.declared.outcome.Note.{Note}
 use Rattle.cw_top.specs.declared.outcome.Note.TheVariants.{Text, Name}
 
 -- the newest language in which a command reads its source: running threads give up no block yet
-abbrev pub newest : Command → ℕ
-newest (Sim words limits workers schedule report) = 2
-newest command = 1
+abbrev pub newest_language : Command → ℕ
+newest_language (Sim words limits workers schedule report) = 2
+newest_language command = 1
 
-abbrev pub named : Fault → Option Note
-named None = None
-named (Some f) = Some (Name f)
+abbrev pub note_of_fault : Fault → Option Note
+note_of_fault None = None
+note_of_fault (Some f) = Some (Name f)
 
 abbrev pub of_reading : Result Source TextFault → Option Note
-of_reading (Ok source) = named (naming_fault source.items)
+of_reading (Ok source) = note_of_fault (naming_fault source.items)
 of_reading (Err f) = Some (Text f)
 
 -- why these bytes are refused, if they are, where no language after this one is read

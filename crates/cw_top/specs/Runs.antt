@@ -18,7 +18,7 @@ use Rattle.cw_words.specs.declared.command.Command.{Command}
 use Rattle.cw_words.specs.declared.command.Command.TheVariants.{Run, Sim, Load}
 use Rattle.cw_gen.specs.Load.{load_tree}
 use Rattle.cw_words.specs.Words.{limits_of, most_transfers, words_of}
-use Rattle.cw_top.specs.Refusals.{Spells, newest}
+use Rattle.cw_top.specs.Refusals.{Spells, newest_language}
 
 -- ## The command
 
@@ -46,7 +46,7 @@ HasSeveralThreads command = ⊥
 -- the program of a command: the one that the whole source spells, or that of a load
 abbrev pub IsItsProgram : Command → (left : Option (List ℕ)) → Program → Type 0
 IsItsProgram (Load transfers workers) left p = IsProgramOf (load_tree transfers) p
-IsItsProgram c left p = IfSome left (λ bytes. Spells (newest c) bytes p)
+IsItsProgram c left p = IfSome left (λ bytes. Spells (newest_language c) bytes p)
 
 -- only a simulation gives up blocks
 abbrev pub MayCancel : Command → Program → Type 0

@@ -18,7 +18,7 @@ use Rattle.cw_sim.specs.Runs.{simulation_of}
 use Rattle.cw_words.specs.declared.command.Command.{Command}
 use Rattle.cw_words.specs.declared.command.Command.TheVariants.{Run, Sim, Load}
 use Rattle.cw_top.specs.OverSource.{Spawns}
-use Rattle.cw_top.specs.Refusals.{newest}
+use Rattle.cw_top.specs.Refusals.{newest_language}
 use Rattle.cw_top.specs.Written.{end_of_one_memory}
 
 -- In the order that is kept one memory comes to where strand x stands, at what its last attempt was refused: at the begin of a
@@ -54,7 +54,7 @@ IsSpentBy command r = ⊥
 abbrev pub IsSpentOn : Option Command → (left : Option (List ℕ)) → Type 0
 IsSpentOn (Some (Run words limits workers report)) left = Unit {0}
 IsSpentOn (Some (Load transfers workers)) left = Unit {0}
-IsSpentOn (Some (Sim words limits workers schedule report)) left = IfSome left (Spawns (newest (Sim words limits workers schedule report)))
+IsSpentOn (Some (Sim words limits workers schedule report)) left = IfSome left (Spawns (newest_language (Sim words limits workers schedule report)))
 IsSpentOn command left = ⊥
 
 -- All moves of a command were made, as many as its limit, and the run had not come to its end.

@@ -5,7 +5,7 @@ use Rattle.cw_words.specs.declared.command.Command.{Command}
 use Rattle.cw_words.specs.declared.command.Command.TheVariants.{Load}
 use Rattle.cw_words.specs.Words.{words_of}
 use Rattle.cw_top.specs.declared.outcome.Note.{Note}
-use Rattle.cw_top.specs.Refusals.{AsksFor, newest, refusal}
+use Rattle.cw_top.specs.Refusals.{AsksFor, newest_language, refusal}
 
 -- the most bytes that are ever taken from a source: one more than a text may have
 abbrev pub most_bytes : ℕ
@@ -49,10 +49,10 @@ IsRefusedIn language n left = IfSome left (λ bytes. refusal language bytes ≡ 
 abbrev pub IsRefusedFor : Option Command → Note → Option (List ℕ) → Type 0
 IsRefusedFor None n left = ⊥
 IsRefusedFor (Some (Load transfers workers)) n left = ⊥
-IsRefusedFor (Some c) n left = IsRefusedIn (newest c) n left
+IsRefusedFor (Some c) n left = IsRefusedIn (newest_language c) n left
 
 -- a source, with its bytes told, that a command accepts: it is not refused, and asks for as many words as the command has; a load accepts any
 abbrev pub Accepts : Option Command → Option (List ℕ) → Type 0
 Accepts None left = Unit {0}
 Accepts (Some (Load transfers workers)) left = Unit {0}
-Accepts (Some c) left = IsSomeAnd left (λ bytes. (refusal (newest c) bytes ≡ None) × AsksFor (newest c) bytes (length (words_of c)))
+Accepts (Some c) left = IsSomeAnd left (λ bytes. (refusal (newest_language c) bytes ≡ None) × AsksFor (newest_language c) bytes (length (words_of c)))

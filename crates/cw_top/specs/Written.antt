@@ -30,13 +30,13 @@ abbrev pub text_by : (report : Bool) → Record → List ℕ
 text_by report r = run_text r ++ report_if report r
 
 -- the sum of integers, however great
-abbrev pub sum_of : List ℤ → ℤ
-sum_of [] = pos 0
-sum_of (v ∷ vs) = v +ℤ sum_of vs
+abbrev pub sum_of_values : List ℤ → ℤ
+sum_of_values [] = pos 0
+sum_of_values (v ∷ vs) = v +ℤ sum_of_values vs
 
 -- so many transfers were made, and this is what the cells have together
 abbrev pub summary_text : (transfers : ℕ) → (memory : List ℤ) → List ℕ
-summary_text n memory = line (codes "transfers " ++ decimal n) ++ line (codes "sum " ++ signed_decimal (sum_of memory)) ++ line (codes "end")
+summary_text n memory = line (codes "transfers " ++ decimal n) ++ line (codes "sum " ++ signed_decimal (sum_of_values memory)) ++ line (codes "end")
 
 -- what is written of a load: its summary, or where it did not finish the one line of its end
 abbrev pub load_text_of : (transfers : ℕ) → List CellInfo → List Node → RecordEnd → List ℕ
@@ -62,9 +62,9 @@ end_text_in (Results report) r memory outputs = finished_text r.program.cells me
 end_text_in (Summary n) r memory outputs = summary_text n memory
 
 -- the text that a command writes for its run
-abbrev pub text_of : Option Command → Record → List ℕ
-text_of None r = []
-text_of (Some c) r = text_in (telling_of c) r
+abbrev pub text_of_command : Option Command → Record → List ℕ
+text_of_command None r = []
+text_of_command (Some c) r = text_in (telling_of c) r
 
 -- the same of a run that finished, from what one memory comes to
 abbrev pub text_of_end : Option Command → Record → (memory outputs : List ℤ) → List ℕ

@@ -3,7 +3,7 @@ ghost use Rattle.cw_code.specs.Programs.{cancels};
 ghost use Rattle.cw_strand.specs.Programs.{IsProgramOf};
 ghost use Rattle.cw_gen.specs.Load.{load_tree};
 ghost use Rattle.cw_words.specs.Words.{most_transfers};
-ghost use Rattle.cw_top.specs.Written.{sum_of, summary_text};
+ghost use Rattle.cw_top.specs.Written.{sum_of_values, summary_text};
 
 use cw_base::OutOfMemory;
 use cw_code::Program;
@@ -30,7 +30,7 @@ pub fn compiled_load(alloc: Global, transfers: u32) -> Result<Program, OutOfMemo
 
 // The sum of some integers: it has room for as many as there may be.
 fn sum_of(values: &[i64]) -> i128
-    ensures { result ≡ sum_of values.now }
+    ensures { result ≡ sum_of_values values.now }
 {
     let mut sum = 0i128;
     for value in values {

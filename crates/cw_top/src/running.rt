@@ -8,7 +8,7 @@ ghost use Rattle.cw_record.specs.Records.{HasItsOutputs, IsNumberedDepthFirst};
 ghost use Rattle.cw_top.specs.declared.reasons.NoRun.TheVariants.{Misfit};
 ghost use Rattle.cw_top.specs.Outcome.{HasCause};
 ghost use Rattle.cw_top.specs.Reasons.{note_of};
-ghost use Rattle.cw_top.specs.Refusals.{newest};
+ghost use Rattle.cw_top.specs.Refusals.{newest_language};
 ghost use Rattle.cw_top.specs.Runs.{HasSeveralThreads, IsDoneBy, IsItsProgram, IsOfThreads, IsReady, IsRunOf, MayCancel};
 ghost use Rattle.cw_top.specs.Taken.{HasRead, RisesAtMost, TakesAtMost, most_ends, most_read};
 ghost use Rattle.cw_words.specs.Words.{limits_of, words_of};
@@ -30,7 +30,7 @@ use std::thread::Threads;
 
 // The newest language in which a command reads its source.
 fn newest(command: &Command) -> u32
-    ensures { result ≡ newest command.now }
+    ensures { result ≡ newest_language command.now }
 {
     match command {
         Command::Sim { .. } => 2,

@@ -8,7 +8,7 @@ ghost use Rattle.cw_top.specs.OverSource.{IsRunOfSource};
 ghost use Rattle.cw_top.specs.Runs.{HasSeveralThreads, HasSeveralWorkers, IsDoneAs, IsDoneBy, IsReady, IsRunOf};
 ghost use Rattle.cw_top.specs.Spent.{HasSpentMoves, IsSpentBy, IsSpentOn};
 ghost use Rattle.cw_top.specs.Taken.{Accepts, IsRefusedFor, HasRead, RisesAtMost, TakesAtMost, most_ends, most_read};
-ghost use Rattle.cw_top.specs.Written.{StillTells, Writes, WritesEndOfOneMemory, telling_of, text_of, text_owed};
+ghost use Rattle.cw_top.specs.Written.{StillTells, Writes, WritesEndOfOneMemory, telling_of, text_of_command, text_owed};
 ghost use Rattle.cw_words.specs.Words.{command_in};
 
 use crate::reasons::NoRun;
@@ -55,8 +55,8 @@ fn ran<R: Threads + Wait + Sync, S: Source, K: Sink, G: Gate>(
     ensures once { RisesAtMost (most_ends (Some command)) (S.ends source.old) (S.ends source.new) }
     ensures run { IfSome result.kept (IsRunOf (Some command) (S.left source.old)) }
     ensures done { IfSome result.kept (IsDoneBy command) }
-    ensures written { Writes (text_owed (text_of (Some command)) result.kept result.status) result.note (K.written sink.old) (K.written sink.new) }
-    ensures tells { (result.status ≡ 4 → ⊥) → StillTells (text_owed (text_of (Some command)) result.kept result.status) (K.tells_for sink.old) (K.tells_for sink.new) (K.written sink.old) (K.written sink.new) }
+    ensures written { Writes (text_owed (text_of_command (Some command)) result.kept result.status) result.note (K.written sink.old) (K.written sink.new) }
+    ensures tells { (result.status ≡ 4 → ⊥) → StillTells (text_owed (text_of_command (Some command)) result.kept result.status) (K.tells_for sink.old) (K.tells_for sink.new) (K.written sink.old) (K.written sink.new) }
 {
     let telling = telling_of(&command);
     let is_unsure = has_several_threads(&command);
@@ -86,8 +86,8 @@ fn answer<R: Threads + Wait + Sync, S: Source, K: Sink, G: Gate>(
     ensures once { RisesAtMost (most_ends command) (S.ends source.old) (S.ends source.new) }
     ensures run { IfSome result.kept (IsRunOf command (S.left source.old)) }
     ensures done { IfSome result.kept (IsDoneAs command) }
-    ensures written { Writes (text_owed (text_of command) result.kept result.status) result.note (K.written sink.old) (K.written sink.new) }
-    ensures tells { (result.status ≡ 4 → ⊥) → StillTells (text_owed (text_of command) result.kept result.status) (K.tells_for sink.old) (K.tells_for sink.new) (K.written sink.old) (K.written sink.new) }
+    ensures written { Writes (text_owed (text_of_command command) result.kept result.status) result.note (K.written sink.old) (K.written sink.new) }
+    ensures tells { (result.status ≡ 4 → ⊥) → StillTells (text_owed (text_of_command command) result.kept result.status) (K.tells_for sink.old) (K.tells_for sink.new) (K.written sink.old) (K.written sink.new) }
 {
     match command {
         None => Reply {
@@ -179,10 +179,10 @@ pub fn cwstm<R: Threads + Wait + Sync, S: Source, K: Sink, G: Gate>(
     // Reading ends with the first read that gives no byte: at the end of the source, at a failure, or into an empty buffer.
     // So the source is asked at most once at its end, and not again after it failed. Words that are no command, and a load, ask for nothing.
     ensures once { RisesAtMost (most_ends (command_in words.now)) (S.ends source.old) (S.ends source.new) }
-    ensures written { Writes (text_owed (text_of (command_in words.now)) result.kept result.status) result.note (K.written sink.old) (K.written sink.new) }
+    ensures written { Writes (text_owed (text_of_command (command_in words.now)) result.kept result.status) result.note (K.written sink.old) (K.written sink.new) }
 
     // Unless a write failed, a sink that goes on telling for as many bytes as the text has, and some more, still tells, and goes on for the rest.
-    ensures tells { (result.status ≡ 4 → ⊥) → StillTells (text_owed (text_of (command_in words.now)) result.kept result.status) (K.tells_for sink.old) (K.tells_for sink.new) (K.written sink.old) (K.written sink.new) }
+    ensures tells { (result.status ≡ 4 → ⊥) → StillTells (text_owed (text_of_command (command_in words.now)) result.kept result.status) (K.tells_for sink.old) (K.tells_for sink.new) (K.written sink.old) (K.written sink.new) }
 
     // Counts of faults never fall.
     ensures read_later { S.faults source.old ≤ S.faults source.new }

@@ -92,7 +92,7 @@ is_live_access t c n e l =
 abbrev pub left_before : List Node → ℤ → (b : ℕ) → List ℕ → ℤ
 left_before t v b us = cell_value v (map (written t) (before_block t b us))
 
-before_step : (t : List Node) (b n : ℕ) (ns : List ℕ) → before_block t b (n ∷ ns) ≡ cond (not (is_above t b n)) (n ∷ before_block t b ns) []
+pub before_step : (t : List Node) (b n : ℕ) (ns : List ℕ) → before_block t b (n ∷ ns) ≡ cond (not (is_above t b n)) (n ∷ before_block t b ns) []
 before_step t b n ns = take_while-cons (λ u. not (is_above t b u)) n ns
 
 -- in two trees it is the same where their nodes are the same to the block, and wrote the same

@@ -3,6 +3,7 @@ pub mod Counting
 pub mod Members
 pub mod Ahead
 pub mod Rising
+pub mod Maps
 pub mod Sorts
 pub mod NodeKinds
 pub mod Cancels
@@ -14,3 +15,4 @@ pub mod VictimsAt
 pub mod Walks
 pub mod Worked
 pub mod LastBelow
+pub mod FirstBelow

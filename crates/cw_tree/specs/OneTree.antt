@@ -63,13 +63,13 @@ turned_round =
     plain 0 Strand 0 ∷ plain 0 Fork 1 ∷ plain 1 Strand 0 ∷ committed 2 3 5 ∷ plain 3 (Out (pos 9)) 4 ∷ plain 2 (Out (pos 6)) 6 ∷ plain 0 (Out (pos 5)) 7 ∷ plain 1 Strand 0
     ∷ plain 7 (Out (pos 8)) 4 ∷ plain 7 (Out (pos 7)) 2 ∷ []
 
-abbrev pub refused : ℕ → Conflict
-refused asker = record { cell = 0; last = 1; asker = asker; block = 0; victim = 0; attempt = 1; chain = 1 ∷ [] }
+abbrev pub conflict_of_asker : ℕ → Conflict
+conflict_of_asker asker = record { cell = 0; last = 1; asker = asker; block = 0; victim = 0; attempt = 1; chain = 1 ∷ [] }
 
 pub record OneTreeRows : Type 0 where
   pub numbered : IsNumbered interleaved
   pub other_numbered : IsNumbered log_by_log
   pub one : AreOne number_in_logs interleaved log_by_log
   -- an asker of the right strand comes first in time, and last in the logs
-  pub along : GoAlong number_in_logs interleaved (refused 6 ∷ refused 7 ∷ []) (refused 4 ∷ refused 9 ∷ [])
+  pub along : GoAlong number_in_logs interleaved (conflict_of_asker 6 ∷ conflict_of_asker 7 ∷ []) (conflict_of_asker 4 ∷ conflict_of_asker 9 ∷ [])
   pub round : in_order turned_round ≡ in_order interleaved → ⊥

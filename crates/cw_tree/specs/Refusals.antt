@@ -82,12 +82,12 @@ abbrev pub telling : List Node → List Conflict → ℕ → ℕ → Option Conf
 telling t cs budget s = find (tells t budget s) cs
 
 -- the block or the access that a conflict refused
-abbrev pub refused : List Node → Conflict → ℕ
-refused t c = option_map_or (λ v. unwrap_or (block_with_stamp t v) 0) (victim_of c) c.asker
+abbrev pub refused_node : List Node → Conflict → ℕ
+refused_node t c = option_map_or (λ v. unwrap_or (block_with_stamp t v) 0) (victim_of c) c.asker
 
 -- what a conflict refused may be the end of a run: that block is pending, or that access is the last, and no block above was rolled back
 abbrev pub may_be_last : List Node → Conflict → Bool
-may_be_last t c = is_live t (refused t c) && (is_tried t (refused t c) || is_pending t (refused t c))
+may_be_last t c = is_live t (refused_node t c) && (is_tried t (refused_node t c) || is_pending t (refused_node t c))
 
 -- A strand of the tree has spent its budget, where a conflict tells so.
 pub record Spent (t : List Node) (cs : List Conflict) (budget s : ℕ) : Type 0 where

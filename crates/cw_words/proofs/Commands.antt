@@ -10,7 +10,7 @@ use Rattle.cw_words.specs.declared.command.Command.{Command}
 use Rattle.cw_words.specs.declared.command.Command.TheVariants.{Load, Run}
 use Rattle.cw_io.specs.declared.schedule.Schedule.TheVariants.{List as Listed}
 use Rattle.cw_words.specs.Options.{Given, list_below, number_within}
-use Rattle.cw_words.specs.Reading.{integers_in, known_in, limits_in, number_asked, sole_in, report_asked, schedule_asked, text_in, transfers_asked, value_in}
+use Rattle.cw_words.specs.Reading.{integers_in, known_in, limits_in, number_asked, sole_in, report_asked, schedule_asked, option_text, transfers_asked, value_in}
 use Rattle.cw_words.specs.Words as words
 use Rattle.cw_words.specs.Words.{load_given, load_options, most_transfers, run_given, run_options, workers_option}
 
@@ -41,17 +41,17 @@ transfers_are None = refl
 transfers_are (Some h) = refl
 
 -- the schedule by the values that were read of its two options
-pub schedule_read : (workers : ℕ) (g : Option Given) (list seed : Option (Bor (List ℕ))) → text_in (Some list) ≡ value_in (codes "schedule") g → text_in (Some seed) ≡ value_in (codes "seed") g
+pub schedule_read : (workers : ℕ) (g : Option Given) (list seed : Option (Bor (List ℕ))) → option_text (Some list) ≡ value_in (codes "schedule") g → option_text (Some seed) ≡ value_in (codes "seed") g
     → schedule_asked workers g ≡ words.schedule_in workers (option_map (λ v. v.now) list) (option_map (λ v. v.now) seed)
 schedule_read workers g list seed l s =
-    schedule_is workers g ∙ ap (λ o. schedule_by workers o (value_in (codes "seed") g)) (sym l) ∙ ap (λ o. schedule_by workers (text_in (Some list)) o) (sym s)
+    schedule_is workers g ∙ ap (λ o. schedule_by workers o (value_in (codes "seed") g)) (sym l) ∙ ap (λ o. schedule_by workers (option_text (Some list)) o) (sym s)
 
-pub no_schedule : (workers : ℕ) (g : Option Given) (list : Option (Bor (List ℕ))) → text_in (Some list) ≡ value_in (codes "schedule") g → None ≡ value_in (codes "seed") g → schedule_asked workers g ≡ None
+pub no_schedule : (workers : ℕ) (g : Option Given) (list : Option (Bor (List ℕ))) → option_text (Some list) ≡ value_in (codes "schedule") g → None ≡ value_in (codes "seed") g → schedule_asked workers g ≡ None
 no_schedule workers g list l s =
-    schedule_is workers g ∙ ap (λ o. schedule_by workers o (value_in (codes "seed") g)) (sym l) ∙ ap (λ o. schedule_by workers (text_in (Some list)) o) (sym s)
+    schedule_is workers g ∙ ap (λ o. schedule_by workers o (value_in (codes "seed") g)) (sym l) ∙ ap (λ o. schedule_by workers (option_text (Some list)) o) (sym s)
 
 -- one of the two options of a schedule, or both, was read
-module _ (workers : ℕ) (g : Option Given) (list seed : Option (Bor (List ℕ))) (l : text_in (Some list) ≡ value_in (codes "schedule") g) (s : text_in (Some seed) ≡ value_in (codes "seed") g) where
+module _ (workers : ℕ) (g : Option Given) (list seed : Option (Bor (List ℕ))) (l : option_text (Some list) ≡ value_in (codes "schedule") g) (s : option_text (Some seed) ≡ value_in (codes "seed") g) where
   abbrev by : (list seed : Option (Bor (List ℕ))) → Option Schedule
   by x y = words.schedule_in workers (option_map (λ v. v.now) x) (option_map (λ v. v.now) y)
 

@@ -128,18 +128,3 @@ module _ (g h : Option Given) where
       go : (o : Option Given) → sole_after found (option_map (with_option name value) o) ≡ sole_after found o
       go None = refl
       go (Some x) = refl
-
-  module _ (w : List ℕ) (e : g ≡ option_map (with_word w) h) where
-    pub only_found : (v : Bor (List ℕ)) → v.now ≡ w → sole_after None g ≡ sole_after (Some v) h
-    only_found v is = ap (sole_after None) e ∙ go h
-      where
-        go : (o : Option Given) → sole_after None (option_map (with_word w) o) ≡ sole_after (Some v) o
-        go None = refl
-        go (Some x) = ap (λ u. sole_word (u ∷ x.words)) (sym is)
-
-    pub only_twice : (v : Bor (List ℕ)) → sole_after (Some v) g ≡ None
-    only_twice v = ap (sole_after (Some v)) e ∙ go h
-      where
-        go : (o : Option Given) → sole_after (Some v) (option_map (with_word w) o) ≡ None
-        go None = refl
-        go (Some x) = refl

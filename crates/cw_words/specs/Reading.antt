@@ -13,8 +13,8 @@ parts_behind None = []
 parts_behind (Some text) = parts_of text.now
 
 -- the value of an option, if it has one, as a text
-abbrev pub text_in : Option (Option (Bor (List ℕ))) → Option (Option (List ℕ))
-text_in = option_map (option_map (λ v. v.now))
+abbrev pub option_text : Option (Option (Bor (List ℕ))) → Option (Option (List ℕ))
+option_text = option_map (option_map (λ v. v.now))
 
 -- ## Of what words give, if they can be read
 

@@ -4,7 +4,7 @@ ghost use Rattle.std.specs.Str.{bytes_eq};
 ghost use Rattle.cw_io.specs.declared.schedule.Schedule.TheVariants.{List as Listed};
 ghost use Rattle.cw_words.specs.Given.{Reads};
 ghost use Rattle.cw_words.specs.Options.{given};
-ghost use Rattle.cw_words.specs.Reading.{integers_in, known_in, limits_in, number_asked, sole_in, report_asked, schedule_asked, text_in, transfers_asked, value_in};
+ghost use Rattle.cw_words.specs.Reading.{integers_in, known_in, limits_in, number_asked, sole_in, report_asked, schedule_asked, option_text, transfers_asked, value_in};
 ghost use Rattle.cw_words.specs.Words.{default_limits, schedule_in as schedule_by, workers_option};
 
 use crate::given::{Next, next_of, words_behind};
@@ -54,7 +54,7 @@ pub fn are_known(words: &[String], names: &[&str]) -> bool
 
 // The value that the option of this name is given, if it is given one. It may not be given twice.
 fn value_of<'a>(words: &'a [String], name: &str) -> Option<Option<&'a str>>
-    ensures { text_in result ≡ value_in name.now (given (map string_bytes words.now)) }
+    ensures { option_text result ≡ value_in name.now (given (map string_bytes words.now)) }
 {
     let mut found = None;
     let mut rest = words_behind(words);

@@ -3,7 +3,7 @@ use Rattle.std.proofs.Common.{◌≢◌, ℕ, suc, ◌-◌, List, [], ◌∷◌}
 use Rattle.cw_code.specs.declared.program.Program.{Program}
 use Rattle.cw_strand.specs.declared.want.Want.TheVariants.{End}
 use Rattle.cw_strand.specs.Strands.{Strands}
-use Rattle.cw_job.specs.Jobs.{bare}
+use Rattle.cw_job.specs.Jobs.{bare_job}
 use Rattle.cw_job.specs.Room.Strands.{StrandState}
 use Rattle.cw_job.specs.Room.Saves.{MayRollBack}
 use Rattle.cw_job.proofs.Room.Backs.{stands_as_it}
@@ -18,7 +18,7 @@ gave_up_each s level a n (b ∷ bs) h = (record { since = h.0.since; forks = lev
 
 abbrev pub may_go_back : (program : Program) (level : ℕ) (a : StrandState) (b : Begin) (bs : List Begin) → IsKept program b bs → GaveUpInside (strands_of_program program) level a b → (strands_of_program program).want a ≢ End → MayRollBack b.saved a
 may_go_back program level a b bs kept h off = record {
-  job = bare program;
+  job = bare_job program;
   begin = begin_of b;
   is_saved = kept.saved;
   there = a;

@@ -32,10 +32,11 @@ use Rattle.cw_core.specs.State.{CoreState, joined_columns, has_columns, is_split
 use Rattle.cw_core.specs.Events.{steps_of, after_event, is_unstarted, is_early}
 use Rattle.cw_core.specs.Laws.{IsCore}
 use Rattle.cw_core.proofs.Events.Joined.{joins_of, joins_more, joins_no_more}
-use Rattle.cw_core.proofs.Events.Ordering.{columns_used, unjoined, open_fork, ordered, closed_strand}
+use Rattle.cw_core.proofs.Events.Ordering.{columns_used, unjoined, ordered}
 use Rattle.cw_core.proofs.Laws.LeftFirst.{left_tier, left_shut}
 use Rattle.cw_core.proofs.Events.Complete.{none_of}
 use Rattle.cw_open.proofs.Runs.More.{reached_more}
+use Rattle.cw_open.proofs.Open.Kinds.{finished_shut, unjoined_open}
 use Rattle.cw_core.proofs.Events.Going.{well, all_listed, root_open}
 use Rattle.cw_core.proofs.Events.Making.{IsKept}
 use Rattle.cw_core.proofs.Events.Closing.{same_shape}
@@ -146,13 +147,13 @@ module _ (first : List ℤ) (k : CoreState) (core : IsCore first k) (f : ℕ) (f
 
   module _ (all : list_all (has_finished m) (children t f) ≡ true) where
     child_done : (s : ℕ) → 0 < s → s < length t → parent_of t s ≡ f → is_open m s ≡ false
-    child_done s some h up = closed_strand m s (fork_child t tree s some h (ap (is_fork t) up ∙ fork)) (all_in (has_finished m) s (children t f) all (child_in t f s (record { some = some; there = h; parent = up })))
+    child_done s some h up = finished_shut m s (fork_child t tree s some h (ap (is_fork t) up ∙ fork)) (all_in (has_finished m) s (children t f) all (child_in t f s (record { some = some; there = h; parent = up })))
 
     is_done : IsDone t (is_open m) col
     is_done = record { fork = f; is = fork; at = refl; done = child_done }
 
     in_order : IsOrdered k.tier t k.splits (joined_columns k) (is_open m)
-    in_order = ordered k (well first k core) core.joined core.left_first core.stands (root_open first k core f there (open_fork k (well first k core) core.joined core.left_first core.stands f fork unjoined_f))
+    in_order = ordered k (well first k core) core.joined core.left_first core.stands (root_open first k core f there (unjoined_open k.machine f fork unjoined_f))
 
     abbrev mz : OpenMachine
     mz = record m { joined = f ∷ m.joined }

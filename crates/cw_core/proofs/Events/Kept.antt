@@ -11,7 +11,7 @@ use Rattle.cw_tree.specs.declared.conflict.Conflict.{Conflict}
 use Rattle.cw_tree.specs.Nodes.{is_strand, is_fork, is_pending}
 use Rattle.cw_tree.specs.Walks.{has}
 use Rattle.cw_tree.specs.Series.{strand_of, children, place}
-use Rattle.cw_tree.specs.Refusals.{is_victim, refused}
+use Rattle.cw_tree.specs.Refusals.{is_victim, refused_node}
 use Rattle.cw_trace.specs.Columns.{used}
 use Rattle.cw_trace.proofs.Keeps.GoingOn.{goes_on}
 use Rattle.cw_trace.specs.Stands.{GoesOn, fork_column}
@@ -39,9 +39,9 @@ use Rattle.cw_core.proofs.Events.Rolling.{keeps_roll}
 
 -- ## Stops
 
-spent_strand : (t : List Node) → is_strand t 0 ≡ true → (s : ℕ) (o : Option Conflict) → option_map_or (λ x. nat_eq x s) (option_map (λ c. strand_of t (refused t c)) o) false ≡ true → is_strand t s ≡ true
+spent_strand : (t : List Node) → is_strand t 0 ≡ true → (s : ℕ) (o : Option Conflict) → option_map_or (λ x. nat_eq x s) (option_map (λ c. strand_of t (refused_node t c)) o) false ≡ true → is_strand t s ≡ true
 spent_strand t root s None e = absurd (cc e)
-spent_strand t root s (Some c) e = let P : ℕ → Type 0 = λ x. is_strand t x ≡ true in subst P (eqb-true (strand_of t (refused t c)) s e) (strand_is t root (refused t c))
+spent_strand t root s (Some c) e = let P : ℕ → Type 0 = λ x. is_strand t x ≡ true in subst P (eqb-true (strand_of t (refused_node t c)) s e) (strand_is t root (refused_node t c))
 
 stop_run : (k : CoreState) → is_strand k.machine.tree 0 ≡ true → (h : Halt) → may_stop k h ≡ true → IsRun at_once k.machine (steps_of k (event.Stop h))
 stop_run k root (halt.Fault s kind) e = (e, tt)

@@ -1,8 +1,8 @@
 -- What the tier asks of open nodes holds of a core, and where a strand may go on.
 use Rattle.std.proofs.Common.{◌≡◌, ℕ, ◌+◌, ◌<◌, List, length, ap, sym, ◌∙◌, subst, arith, true, false, inl, inr, nat_eq, nat_lt}
-use Rattle.std.specs.Prelude.{◌⊎◌, ◌&&◌, ◌||◌, not}
+use Rattle.std.specs.Prelude.{◌&&◌, ◌||◌, not}
 use Rattle.std.specs.List.{list_any}
-use Rattle.std.proofs.lemmas.Bool.{and_parts, and_from, and_left, and_right, and_cases, or_cases, or_from, or_left, or_right, cases_lt, cases_eq, not-true, not-false, not_from_false, not_from_true, false_from_ne_true, true_from_ne_false, lt-ltb, eq-eqb}
+use Rattle.std.proofs.lemmas.Bool.{and_parts, and_from, and_cases, or_left, cases_lt, cases_eq, not-false, not_from_false, false_from_ne_true, true_from_ne_false, lt-ltb, eq-eqb}
 use Rattle.cw_tree.specs.declared.node.Node.{Node}
 use Rattle.cw_tree.specs.Nodes.{parent_of, is_fork, is_strand, is_pending, all_nodes}
 use Rattle.cw_tree.specs.Walks.{has}
@@ -12,7 +12,7 @@ use Rattle.cw_tree.proofs.Lists.{In, any_from}
 use Rattle.cw_tree.proofs.Members.{below_in, filter_in}
 use Rattle.cw_tree.proofs.NextNodes.Trees.{is_child, no_fork}
 use Rattle.cw_tree.proofs.Walks.Kin.{fork_child}
-use Rattle.cw_tree.proofs.NodeKinds.{strand_no_block, fork_no_strand, fork_no_block, pending_block}
+use Rattle.cw_tree.proofs.NodeKinds.{strand_no_block, pending_block}
 use Rattle.cw_trace.specs.Columns.{used}
 use Rattle.cw_trace.specs.Stands.{fork_column}
 use Rattle.cw_trace.specs.Keeps.{Keeps}
@@ -21,16 +21,10 @@ use Rattle.cw_open.specs.Machine.{OpenMachine, has_finished, is_running}
 use Rattle.cw_open.specs.Open.{is_open}
 use Rattle.cw_open.proofs.Open.Standing.{stands, place_open, none_open, pending_open}
 use Rattle.cw_open.proofs.Open.Trees.{IsWell, stands_well}
+use Rattle.cw_open.proofs.Open.Kinds.{finished_shut, unjoined_open, open_unjoined, open_kinds}
 use Rattle.cw_core.specs.State.{CoreState, joined_columns, has_columns, is_split, waits_for_left}
 use Rattle.cw_core.specs.Laws.{IsLeftFirst}
 use Rattle.cw_core.proofs.Events.Joined.{joins_have, joins_tell}
-
--- a strand that finished is open no more
-pub closed_strand : (m : OpenMachine) (s : ℕ) → is_strand m.tree s ≡ true → has_finished m s ≡ true → is_open m s ≡ false
-closed_strand m s strand done =
-    or_from (is_strand m.tree s && not (has_finished m s) || is_fork m.tree s && not (has m.joined s)) (is_pending m.tree s)
-    (or_from (is_strand m.tree s && not (has_finished m s)) (is_fork m.tree s && not (has m.joined s)) (and_right (is_strand m.tree s) _ (not_from_true _ done)) (and_left (is_fork m.tree s) _ (false_from_ne_true (is_fork m.tree s) (λ e. absurd (cc (strand, fork_no_strand m.tree s e))))))
-    (false_from_ne_true (is_pending m.tree s) (λ e. absurd (cc (strand_no_block m.tree s strand, pending_block m.tree s e))))
 
 module _ (k : CoreState) (w : IsWell k.machine) (forks : (f : ℕ) → has k.machine.joined f ≡ true → is_fork k.machine.tree f ≡ true) (left : IsLeftFirst k.tier k.machine.tree k.splits (is_open k.machine)) (tier : Keeps k.tier k.words k.machine.tree k.splits (joined_columns k)) where
   abbrev t : List Node
@@ -49,33 +43,8 @@ module _ (k : CoreState) (w : IsWell k.machine) (forks : (f : ℕ) → has k.mac
   pub used_columns : (f : ℕ) → is_fork t f ≡ true → fork_column t f + 1 < used k.tier → has_columns k f ≡ true
   used_columns f fork low = (tier.forks f fork).1 low
 
-  pub open_fork : (f : ℕ) → is_fork t f ≡ true → has m.joined f ≡ false → is_open m f ≡ true
-  open_fork f fork e =
-      or_left (is_strand t f && not (has_finished m f) || is_fork t f && not (has m.joined f)) (is_pending t f)
-      (or_right (is_strand t f && not (has_finished m f)) (is_fork t f && not (has m.joined f)) (and_from (is_fork t f) (not (has m.joined f)) fork (not_from_false (has m.joined f) e)))
-
-  open_unjoined : (f : ℕ) → is_fork t f ≡ true → is_open m f ≡ true → has m.joined f ≡ false
-  open_unjoined f fork e =
-      elim (or_cases (is_strand t f && not (has_finished m f) || is_fork t f && not (has m.joined f)) (is_pending t f) e) [
-        | inr z ↦ absurd (cc (pending_block t f z, fork_no_block t f fork))
-        | inl z ↦ elim (or_cases (is_strand t f && not (has_finished m f)) (is_fork t f && not (has m.joined f)) z) [
-          | inl y ↦ absurd (cc ((and_parts (is_strand t f) (not (has_finished m f)) y).0, fork_no_strand t f fork))
-          | inr y ↦ not-true (has m.joined f) (and_parts (is_fork t f) (not (has m.joined f)) y).1
-        ]
-      ]
-
   pub unjoined : (f : ℕ) → is_fork t f ≡ true → has m.joined f ≡ false → has (joined_columns k) (fork_column t f) ≡ false
   unjoined f fork e = false_from_ne_true (has (joined_columns k) (fork_column t f)) (λ z. absurd (cc (e, joins_tell t k.tier.room m.joined forks f fork z)))
-
-  open_kinds : (n : ℕ) → is_open m n ≡ true → (is_strand t n ≡ true) ⊎ ((is_fork t n ≡ true) ⊎ (is_pending t n ≡ true))
-  open_kinds n e =
-      elim (or_cases (is_strand t n && not (has_finished m n) || is_fork t n && not (has m.joined n)) (is_pending t n) e) [
-        | inr z ↦ inr (inr z)
-        | inl z ↦ elim (or_cases (is_strand t n && not (has_finished m n)) (is_fork t n && not (has m.joined n)) z) [
-          | inl y ↦ inl (and_parts (is_strand t n) (not (has_finished m n)) y).0
-          | inr y ↦ inr (inl (and_parts (is_fork t n) (not (has m.joined n)) y).0)
-        ]
-      ]
 
   one_open : (n c : ℕ) → 0 < n → 0 < c → n < length t → c < length t → is_open m n ≡ true → is_open m c ≡ true → parent_of t n ≡ parent_of t c → is_fork t (parent_of t n) ≡ false → n ≡ c
   one_open n c sn sc hn hc en ec same nf =
@@ -93,9 +62,9 @@ module _ (k : CoreState) (w : IsWell k.machine) (forks : (f : ℕ) → has k.mac
         (or_left (is_strand t 0 && not (has_finished m 0)) (is_fork t 0 && not (has m.joined 0)) (and_from (is_strand t 0) (not (has_finished m 0)) tree.root (not_from_false (has_finished m 0) runs)));
     pending = pending_open m tree w.nested;
     forks = λ f fork low e.
-        open_fork f fork (false_from_ne_true (has m.joined f) (λ z. absurd (cc (e, joins_have t k.tier.room m.joined f z (used_columns f fork low)))));
-    joined = λ f fork low e. unjoined f fork (open_unjoined f fork e);
-    kinds = λ n h e. open_kinds n e;
+        unjoined_open m f fork (false_from_ne_true (has m.joined f) (λ z. absurd (cc (e, joins_have t k.tier.room m.joined f z (used_columns f fork low)))));
+    joined = λ f fork low e. unjoined f fork (open_unjoined m f fork e);
+    kinds = λ n h e. open_kinds m n e;
     outer = w.nested.outer;
     one = one_open;
     left_first = λ l r n some less h same fork unsplit hn over ne. left l r n some less h same fork unsplit hn over ne;
@@ -133,7 +102,7 @@ module _ (k : CoreState) (w : IsWell k.machine) (forks : (f : ℕ) → has k.mac
                     let child : In l (children t (parent_of t s)) = filter_in (is_child t (parent_of t s)) l (all_nodes t) (below_in l (length t) low) (and_from (nat_lt 0 l) (nat_eq (parent_of t l) (parent_of t s)) (lt-ltb 0 l some) (eq-eqb (parent_of t l) (parent_of t s) z.1)) in
                     let done : has_finished m l ≡ true =
                     true_from_ne_false (has_finished m l) (λ f. absurd (cc (none, any_from (λ x. nat_lt x s && not (has_finished m x)) l (children t (parent_of t s)) child (and_from (nat_lt l s) (not (has_finished m l)) (lt-ltb l s z.0) (not_from_false (has_finished m l) f))))) in
-                    closed_strand m l (fork_child t tree l some low (ap (is_fork t) z.1 ∙ z.2)) done)
+                    finished_shut m l (fork_child t tree l some low (ap (is_fork t) z.1 ∙ z.2)) done)
               ])
         ]
 

@@ -21,7 +21,7 @@ use Rattle.cw_core.specs.declared.event.Reply.{Reply}
 use Rattle.cw_core.specs.declared.event.Reply.TheVariants as reply
 use Rattle.cw_core.specs.State.{CoreState, column_of, waits_for_left}
 use Rattle.cw_core.specs.Events.{fits, is_met, met_by, after_event, reply_to}
-use Rattle.cw_core.specs.Kept.{AreParts, changed, with_tail, with_place, plain_tail, leaf_row, cell_changed, with_entry, without_room}
+use Rattle.cw_core.specs.Kept.{AreParts, with_row_changed, with_tail, with_place, plain_tail, leaf_row, cell_changed, with_entry, without_room}
 use Rattle.cw_core.specs.InMemory.{state_of, IsCoreInMemory}
 use Rattle.cw_core.proofs.Fits.Ready.{row_there, place_there, one_more}
 use Rattle.cw_core.proofs.InMemory.Out.{max_next, now_of, runs_free}
@@ -64,14 +64,14 @@ module _ (a : Inside) (i : IsCoreInMemory a) (s c : ℕ) (write : Option ℤ) (f
 
   pub access_kept : (b : Inside) → b.tree ≡ a.tree ++ x ∷ [] → b.clock ≡ a.clock + 1 → b.cells.items ≡ cell_changed (with_entry (column_of k s) (a.clock + 1) write) c a.cells.items
       → (length a.tree ≡ 2 ^ 32 - 1 → ⊥)
-      → b.rows.items ≡ changed (with_place (place a.tree s)) s (changed (with_tail plain_tail) (place a.tree s) a.rows.items ++ leaf_row s 0 ∷ [])
+      → b.rows.items ≡ with_row_changed (with_place (place a.tree s)) s (with_row_changed (with_tail plain_tail) (place a.tree s) a.rows.items ++ leaf_row s 0 ∷ [])
       → IsCoreInMemory (record a { tree = b.tree; clock = b.clock; rows = b.rows; cells = b.cells })
   access_kept b grown drawn cells full rows =
       let r = row_there k a.rows.items a.forks.items a.cells.items a.spent i (place a.tree s) (place_there k a.rows.items a.forks.items a.cells.items a.spent i s running) in
       let parts = access_parts k a.rows.items a.forks.items a.cells.items a.spent i s c write fit off r.0 r.1 (one_more (length a.tree) i.few full) cell at in
       let P : CoreState → Type 0 = λ z. AreParts z b.rows.items a.forks.items b.cells.items a.spent in
       let Q : List Row → Type 0 = λ rs. AreParts (after_event k (event.Access s c write)) rs a.forks.items b.cells.items a.spent in
-      let R : List CellParts → Type 0 = λ cs. AreParts (after_event k (event.Access s c write)) (changed (with_place (place a.tree s)) s (changed (with_tail plain_tail) (place a.tree s) a.rows.items ++ leaf_row s 0 ∷ [])) a.forks.items cs a.spent in
+      let R : List CellParts → Type 0 = λ cs. AreParts (after_event k (event.Access s c write)) (with_row_changed (with_place (place a.tree s)) s (with_row_changed (with_tail plain_tail) (place a.tree s) a.rows.items ++ leaf_row s 0 ∷ [])) a.forks.items cs a.spent in
       subst P (sym (access_state b grown drawn cells)) (subst Q (sym rows) (subst R (sym cells) parts))
 
 -- ## What the code of an access finds

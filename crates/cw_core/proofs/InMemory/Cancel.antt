@@ -15,7 +15,7 @@ use Rattle.cw_core.specs.declared.row.Row.{Row}
 use Rattle.cw_core.specs.declared.cores.Core.TheInside.{Inside}
 use Rattle.cw_core.specs.State.{CoreState, waits_for_left}
 use Rattle.cw_core.specs.Events.{fits, after_event}
-use Rattle.cw_core.specs.Kept.{IsRow, AreParts, changed, with_tail, with_place, plain_tail, leaf_row}
+use Rattle.cw_core.specs.Kept.{IsRow, AreParts, with_row_changed, with_tail, with_place, plain_tail, leaf_row}
 use Rattle.cw_core.specs.InMemory.{state_of, IsCoreInMemory}
 use Rattle.cw_core.specs.Undone.{MayUndo}
 use Rattle.cw_core.specs.Touched.{AreTouched, HaveEntries, backs_of}
@@ -77,7 +77,7 @@ module _ (a : Inside) (i : IsCoreInMemory a) (s : ℕ) (fit : fits (state_of a) 
 
   pub cancel_kept : (b : Inside) → b.tree ≡ a.tree ++ fresh_node (place a.tree s) (Cancel back) (a.clock + 1) ∷ [] → b.clock ≡ a.clock + 1
       → (length a.tree ≡ 2 ^ 32 - 1 → ⊥)
-      → b.rows.items ≡ changed (with_place (place a.tree s)) s (changed (with_tail plain_tail) (place a.tree s) a.rows.items ++ leaf_row s 0 ∷ [])
+      → b.rows.items ≡ with_row_changed (with_place (place a.tree s)) s (with_row_changed (with_tail plain_tail) (place a.tree s) a.rows.items ++ leaf_row s 0 ∷ [])
       → IsCoreInMemory (record a { tree = b.tree; clock = b.clock; rows = b.rows })
   cancel_kept b grown drawn full rows =
       let r = row_there k a.rows.items a.forks.items a.cells.items a.spent i (place a.tree s) (place_there k a.rows.items a.forks.items

@@ -13,7 +13,7 @@ use Rattle.cw_core.specs.declared.row.Row.{Row}
 use Rattle.cw_core.specs.declared.cores.Core.TheInside.{Inside}
 use Rattle.cw_core.specs.State.{CoreState, column_of, gap_of}
 use Rattle.cw_core.specs.Events.{fits, may_fork, after_event, reply_to}
-use Rattle.cw_core.specs.Kept.{AreParts, changed, with_tail, with_wait, plain_tail, fork_rows}
+use Rattle.cw_core.specs.Kept.{AreParts, with_row_changed, with_tail, with_wait, plain_tail, fork_rows}
 use Rattle.cw_core.specs.InMemory.{state_of, IsCoreInMemory}
 use Rattle.cw_core.proofs.InMemory.Out.{max_next, now_of, runs_free}
 use Rattle.cw_core.proofs.Kept.ForkParts.{fork_parts, after_is}
@@ -48,14 +48,14 @@ module _ (a : Inside) (i : IsCoreInMemory a) (s : ℕ) (fit : fits (state_of a) 
 
   pub fork_kept : (b : Inside) → b.tree ≡ a.tree ++ fork_nodes (length a.tree) (place a.tree s) (a.clock + 1) → b.clock ≡ a.clock + 1 → b.tier.columns ≡ tier
       → length a.tree + 3 < 2 ^ 32
-      → b.rows.items ≡ changed with_wait s (changed (with_tail plain_tail) (place a.tree s) a.rows.items ++ fork_rows s (cond z (used a.tier.columns) (column_of k s)) (cond z (used a.tier.columns + 1) (column_of k s)) (length a.tree) z)
+      → b.rows.items ≡ with_row_changed with_wait s (with_row_changed (with_tail plain_tail) (place a.tree s) a.rows.items ++ fork_rows s (cond z (used a.tier.columns) (column_of k s)) (cond z (used a.tier.columns + 1) (column_of k s)) (length a.tree) z)
       → b.forks.items ≡ cond z (a.forks.items ++ length a.tree ∷ []) a.forks.items
       → IsCoreInMemory (record a { tree = b.tree; clock = b.clock; rows = b.rows; tier = b.tier; forks = b.forks })
   fork_kept b grown drawn columns few rows forks =
       let parts = fork_parts k a.rows.items a.forks.items a.cells.items a.spent i s fit z e few in
       let P : CoreState → Type 0 = λ y. AreParts y b.rows.items b.forks.items a.cells.items a.spent in
       let Q : List Row → Type 0 = λ rs. AreParts (after_event k (event.Fork s)) rs b.forks.items a.cells.items a.spent in
-      let R : List ℕ → Type 0 = λ fs. AreParts (after_event k (event.Fork s)) (changed with_wait s (changed (with_tail plain_tail) (place a.tree s) a.rows.items ++ fork_rows s (cond z (used a.tier.columns) (column_of k s)) (cond z (used a.tier.columns + 1) (column_of k s)) (length a.tree) z)) fs a.cells.items a.spent in
+      let R : List ℕ → Type 0 = λ fs. AreParts (after_event k (event.Fork s)) (with_row_changed with_wait s (with_row_changed (with_tail plain_tail) (place a.tree s) a.rows.items ++ fork_rows s (cond z (used a.tier.columns) (column_of k s)) (cond z (used a.tier.columns + 1) (column_of k s)) (length a.tree) z)) fs a.cells.items a.spent in
       subst P (sym (fork_state b grown drawn columns)) (subst Q (sym rows) (subst R (sym forks) parts))
 
 pub fork_reply : (k : CoreState) (s : ℕ) (n left right : ℕ) → may_fork k ≡ true → n ≡ length k.machine.tree → left ≡ n + 1 → right ≡ n + 2 → reply.Forked left right n ≡ reply_to k (event.Fork s)

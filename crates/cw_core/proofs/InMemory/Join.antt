@@ -24,7 +24,7 @@ use Rattle.cw_tree.proofs.InOrder.DepthFirst.{child_is}
 use Rattle.cw_core.specs.declared.row.Row.{Row}
 use Rattle.cw_core.specs.State.{CoreState, has_columns, is_split}
 use Rattle.cw_core.specs.Events.{fits, after_event}
-use Rattle.cw_core.specs.Kept.{IsRow, AreParts, IsVictim, changed, with_joined, with_back, least}
+use Rattle.cw_core.specs.Kept.{IsRow, AreParts, IsVictim, with_row_changed, with_joined, with_back, least}
 use Rattle.cw_core.specs.InMemory.{state_of, IsCoreInMemory}
 use Rattle.cw_core.proofs.Events.Kept.{events}
 use Rattle.cw_core.proofs.Events.Going.{well}
@@ -102,7 +102,7 @@ module _ (k : CoreState) (rows : List Row) (forks : List ℕ) (cells : List Cell
       subst P (row.now.quiet strand waiting) (row.now.victim strand)
 
   pub join_parts : (r l q : Row) → IsRow k f r → IsRow k r.made.left l → IsRow k r.made.right q → fits k (event.Join f) ≡ true
-      → AreParts (after_event k (event.Join f)) (changed with_joined f (changed (with_back (least l.now.victim q.now.victim)) (strand_of t f) rows)) forks cells last
+      → AreParts (after_event k (event.Join f)) (with_row_changed with_joined f (with_row_changed (with_back (least l.now.victim q.now.victim)) (strand_of t f) rows)) forks cells last
   join_parts r l q row left right fit =
       let h = halves_there r row in
       let m = k.machine in
@@ -174,10 +174,10 @@ module _ (a : Inside) (i : IsCoreInMemory a) (k : CoreState) (view : state_of a 
     pub join_state : state_of whole ≡ after_event k (event.Join f)
     join_state = here ∙ ap (λ k. after_event k (event.Join f)) view
 
-    pub join_kept : (l q : Row) → IsRow j r.made.left l → IsRow j r.made.right q → b.rows.items ≡ changed with_joined f (changed (with_back (least l.now.victim q.now.victim)) r.made.strand a.rows.items) → IsCoreInMemory whole
+    pub join_kept : (l q : Row) → IsRow j r.made.left l → IsRow j r.made.right q → b.rows.items ≡ with_row_changed with_joined f (with_row_changed (with_back (least l.now.victim q.now.victim)) r.made.strand a.rows.items) → IsCoreInMemory whole
     join_kept l q left right rows =
         let P : CoreState → Type 0 = λ z. AreParts z b.rows.items a.forks.items a.cells.items a.spent in
         let Q : List Row → Type 0 = λ rs. AreParts (after_event j (event.Join f)) rs a.forks.items a.cells.items a.spent in
         let parts = join_parts j a.rows.items a.forks.items a.cells.items a.spent i f may_here r l q row left right fits_here in
-        let at = ap (λ s. changed with_joined f (changed (with_back (least l.now.victim q.now.victim)) s a.rows.items)) row.made.strand in
+        let at = ap (λ s. with_row_changed with_joined f (with_row_changed (with_back (least l.now.victim q.now.victim)) s a.rows.items)) row.made.strand in
         subst P (sym here) (subst Q (at ∙ sym rows) parts)

@@ -17,7 +17,7 @@ use Rattle.cw_core.specs.declared.row.Row.{Row}
 use Rattle.cw_core.specs.declared.cores.Core.TheInside.{Inside}
 use Rattle.cw_core.specs.State.{CoreState, waits_for_left, column_of, gap_of, spent}
 use Rattle.cw_core.specs.Events.{fits, fits_now, is_stop, after_event}
-use Rattle.cw_core.specs.Kept.{IsRow, AreParts, changed, with_finished, with_tail, with_place, plain_tail, leaf_row}
+use Rattle.cw_core.specs.Kept.{IsRow, AreParts, with_row_changed, with_finished, with_tail, with_place, plain_tail, leaf_row}
 use Rattle.cw_core.specs.InMemory.{state_of, IsCoreInMemory}
 use Rattle.cw_core.proofs.Fits.Ready.{clock_fits, column_there, gap_there, attempt_fits, row_there, row_place, place_there, one_more}
 use Rattle.cw_core.proofs.Kept.Outputs.{out_parts}
@@ -86,7 +86,7 @@ module _ (a : Inside) (i : IsCoreInMemory a) (s : ℕ) (v : ℤ) (fit : fits (st
 
   pub out_kept : (b : Inside) → b.tree ≡ a.tree ++ fresh_node (place a.tree s) (Out v) (a.clock + 1) ∷ [] → b.clock ≡ a.clock + 1
       → (length a.tree ≡ 2 ^ 32 - 1 → ⊥)
-      → b.rows.items ≡ changed (with_place (place a.tree s)) s (changed (with_tail plain_tail) (place a.tree s) a.rows.items ++ leaf_row s 0 ∷ [])
+      → b.rows.items ≡ with_row_changed (with_place (place a.tree s)) s (with_row_changed (with_tail plain_tail) (place a.tree s) a.rows.items ++ leaf_row s 0 ∷ [])
       → IsCoreInMemory (record a { tree = b.tree; clock = b.clock; rows = b.rows })
   out_kept b grown drawn full rows =
       let r = row_there k a.rows.items a.forks.items a.cells.items a.spent i (place a.tree s) (place_there k a.rows.items a.forks.items a.cells.items a.spent i s running) in
@@ -117,7 +117,7 @@ module _ (a : Inside) (i : IsCoreInMemory a) (s : ℕ) (fit : fits (state_of a) 
   pub begin_kept : (b : Inside) → b.tree ≡ a.tree ++ fresh_node (place a.tree s) Block (a.clock + 1) ∷ [] → b.clock ≡ a.clock + 1 → b.gaps.words.items ≡ begun_word a.gaps.words.items (gap_of now s) (a.clock + 1)
       → (length a.tree ≡ 2 ^ 32 - 1 → ⊥)
       → (r : Row) → IsRow now (place a.tree s) r
-      → b.rows.items ≡ changed (with_place (length a.tree)) s (changed (with_tail plain_tail) (place a.tree s) a.rows.items ++ leaf_row s (r.tail.aborted + 1) ∷ [])
+      → b.rows.items ≡ with_row_changed (with_place (length a.tree)) s (with_row_changed (with_tail plain_tail) (place a.tree s) a.rows.items ++ leaf_row s (r.tail.aborted + 1) ∷ [])
       → IsCoreInMemory (record a { tree = b.tree; clock = b.clock; rows = b.rows; gaps = b.gaps })
   begin_kept b grown drawn words full r row rows =
       let z = row_there now a.rows.items a.forks.items a.cells.items a.spent i (place a.tree s) (place_there now a.rows.items a.forks.items a.cells.items a.spent i s runs_now) in
@@ -125,7 +125,7 @@ module _ (a : Inside) (i : IsCoreInMemory a) (s : ℕ) (fit : fits (state_of a) 
       let parts = begin_parts now a.rows.items a.forks.items a.cells.items a.spent i s fit z.0 z.1 (one_more (length a.tree) i.few full) in
       let P : CoreState → Type 0 = λ z. AreParts z b.rows.items a.forks.items a.cells.items a.spent in
       let Q : List Row → Type 0 = λ rs. AreParts (after_event now (event.Begin s)) rs a.forks.items a.cells.items a.spent in
-      let counted = ap (λ n. changed (with_place (length a.tree)) s (changed (with_tail plain_tail) (place a.tree s) a.rows.items ++ leaf_row s (n + 1) ∷ [])) same in
+      let counted = ap (λ n. with_row_changed (with_place (length a.tree)) s (with_row_changed (with_tail plain_tail) (place a.tree s) a.rows.items ++ leaf_row s (n + 1) ∷ [])) same in
       subst P (sym (begin_state b grown drawn words)) (subst Q (counted ∙ sym rows) parts)
 
 -- ## A finish
@@ -139,7 +139,7 @@ runs_finish k s dead fit =
       if_dying b = cond b dead (not dead || left_died k.machine s)
 
 pub finish_kept : (a : Inside) → IsCoreInMemory a → (s : ℕ) (dead : Bool) → fits (state_of a) (event.Finish s dead) ≡ true
-    → (b : Inside) → b.finished ≡ (s, dead) ∷ a.finished → b.rows.items ≡ changed (with_finished dead) s a.rows.items
+    → (b : Inside) → b.finished ≡ (s, dead) ∷ a.finished → b.rows.items ≡ with_row_changed (with_finished dead) s a.rows.items
     → IsCoreInMemory (record a { finished = b.finished; rows = b.rows })
 finish_kept a i s dead fit b more rows =
     let parts = finish_parts (state_of a) s dead (runs_finish (state_of a) s dead fit) a.rows.items a.forks.items a.cells.items a.spent i fit in

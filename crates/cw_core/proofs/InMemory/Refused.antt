@@ -12,7 +12,7 @@ use Rattle.cw_tree.specs.Nodes.{is_block_kind, is_pending_state, stamp_of, is_pe
 use Rattle.cw_tree.specs.Walks.{IsRooted, path, is_above, may_fall}
 use Rattle.cw_tree.specs.Series.{strand_of, children, place}
 use Rattle.cw_tree.specs.Attempts.{tried_cell, same_cell, block_attempt, attempt_of}
-use Rattle.cw_tree.specs.Refusals.{refused}
+use Rattle.cw_tree.specs.Refusals.{refused_node}
 use Rattle.cw_tree.specs.AccessStacks.{access_at, stamps}
 use Rattle.cw_tree.specs.Newest.{last_eight}
 use Rattle.cw_tree.specs.VictimsAt.{victim_at}
@@ -34,7 +34,7 @@ use Rattle.cw_core.specs.declared.cores.Core.TheInside.{Inside}
 use Rattle.cw_core.specs.State.{CoreState, waits_for_left, spent}
 use Rattle.cw_core.specs.Events.{fits, met_by, after_event, reply_to}
 use Rattle.cw_core.specs.Laws.{IsCore}
-use Rattle.cw_core.specs.Kept.{IsRow, AreParts, IsVictim, IsBarrier, changed, with_tail, with_victim, tried_again, tried_tail, leaf_row, conflict_with}
+use Rattle.cw_core.specs.Kept.{IsRow, AreParts, IsVictim, IsBarrier, with_row_changed, with_tail, with_victim, tried_again, tried_tail, leaf_row, conflict_with}
 use Rattle.cw_core.specs.InMemory.{state_of, IsCoreInMemory}
 use Rattle.cw_core.proofs.Events.Going.{well, at_place, pending_stamped}
 use Rattle.cw_core.proofs.Events.Kept.{events}
@@ -198,9 +198,9 @@ module _ (a : Inside) (i : IsCoreInMemory a) (s c : ℕ) (b : Barrier) (own pare
 
   -- ## The budget
 
-  spender : strand_of u (refused u conflict) ≡ option_map_or (strand_of t) v s
+  spender : strand_of u (refused_node u conflict) ≡ option_map_or (strand_of t) v s
   spender = by v refl where
-    by : (o : Option ℕ) → v ≡ o → strand_of u (refused u conflict) ≡ option_map_or (strand_of t) o s
+    by : (o : Option ℕ) → v ≡ o → strand_of u (refused_node u conflict) ≡ option_map_or (strand_of t) o s
     by None e = ap (strand_of u) (refused_access m.first k i.core s free ready c conflict refl (named None e)) ∙ strand_of_new t (fresh_node p (Tried c) 0) rooted there ∙ (stands m (well m.first k i.core).sound.tree (well m.first k i.core).nested s running).strand
     by (Some y) e = ap (strand_of u) (refused_block m.first k i.core s free ready c conflict refl y (pending y e) (stamped y e) (named (Some y) e)) ∙ strand_of_grown t (fresh_node p (Tried c) 0 ∷ []) rooted y (low y e)
 
@@ -246,7 +246,7 @@ module _ (a : Inside) (i : IsCoreInMemory a) (s c : ℕ) (b : Barrier) (own pare
     pub refused_view : (write : Option ℤ) → state_of next ≡ after_event k (event.Access s c write)
     refused_view write = same ∙ sym (after_refused k s c write h.barrier.met)
 
-    pub refused_kept : (length a.tree ≡ 2 ^ 32 - 1 → ⊥) → n.rows.items ≡ changed (with_victim v) s (changed (with_tail (tried_tail c parent.tail)) p a.rows.items ++ leaf_row s 0 ∷ []) → spent z ≡ n.spent
+    pub refused_kept : (length a.tree ≡ 2 ^ 32 - 1 → ⊥) → n.rows.items ≡ with_row_changed (with_victim v) s (with_row_changed (with_tail (tried_tail c parent.tail)) p a.rows.items ++ leaf_row s 0 ∷ []) → spent z ≡ n.spent
         → IsCoreInMemory next
     refused_kept full rows told =
         let q = row_there k a.rows.items a.forks.items a.cells.items a.spent i p there in
@@ -254,8 +254,8 @@ module _ (a : Inside) (i : IsCoreInMemory a) (s c : ℕ) (b : Barrier) (own pare
         let P : CoreState → Type 0 = λ x. AreParts x n.rows.items a.forks.items a.cells.items n.spent in
         let Q : List Row → Type 0 = λ rs. AreParts z rs a.forks.items a.cells.items n.spent in
         subst P (sym same) (subst Q (again q.0 (i.rowed.each p q.0 q.1) ∙ sym rows) parts) where
-          again : (o : Row) → IsRow k p o → changed (with_victim v) s (changed (with_tail (tried_tail c o.tail)) p a.rows.items ++ leaf_row s 0 ∷ []) ≡ changed (with_victim v) s (changed (with_tail (tried_tail c parent.tail)) p a.rows.items ++ leaf_row s 0 ∷ [])
-          again o of = ap (λ n. changed (with_victim v) s (changed (with_tail (record { started = true; aborted = 0; tried = n; cell = c })) p a.rows.items ++ leaf_row s 0 ∷ [])) (sym (own_attempt m.first k i.core s free ready c o.tail of.tail) ∙ own_attempt m.first k i.core s free ready c parent.tail h.row.tail)
+          again : (o : Row) → IsRow k p o → with_row_changed (with_victim v) s (with_row_changed (with_tail (tried_tail c o.tail)) p a.rows.items ++ leaf_row s 0 ∷ []) ≡ with_row_changed (with_victim v) s (with_row_changed (with_tail (tried_tail c parent.tail)) p a.rows.items ++ leaf_row s 0 ∷ [])
+          again o of = ap (λ n. with_row_changed (with_victim v) s (with_row_changed (with_tail (record { started = true; aborted = 0; tried = n; cell = c })) p a.rows.items ++ leaf_row s 0 ∷ [])) (sym (own_attempt m.first k i.core s free ready c o.tail of.tail) ∙ own_attempt m.first k i.core s free ready c parent.tail h.row.tail)
 
   pub refused_reply : (write : Option ℤ) (d : Conflict) → d ≡ conflict → reply.Conflict d ≡ reply_to k (event.Access s c write)
   refused_reply write d is = ap reply.Conflict is ∙ sym (ap (λ b. let y : Reply = cond b (reply.Conflict conflict) (reply.Value (unwrap_or write (live_value m c))) in y) h.barrier.met)

@@ -14,7 +14,7 @@ use Rattle.cw_core.specs.declared.event.Reply.TheVariants as reply
 use Rattle.cw_core.specs.declared.row.Row.{Row}
 use Rattle.cw_core.specs.State.{CoreState}
 use Rattle.cw_core.specs.Events.{fits, fork_at, after_event, reply_to}
-use Rattle.cw_core.specs.Kept.{IsRow, AreParts, changed, with_split}
+use Rattle.cw_core.specs.Kept.{IsRow, AreParts, with_row_changed, with_split}
 use Rattle.cw_core.specs.InMemory.{state_of, IsCoreInMemory}
 use Rattle.cw_core.proofs.Events.Forks.{names}
 use Rattle.cw_core.proofs.Events.Ordering.{columns_used}
@@ -78,7 +78,7 @@ module _ (a : Inside) (i : IsCoreInMemory a) (k : CoreState) (view : state_of a 
         ∙ sym (after_split j f may (ap (before_split a.tier.columns) (sym at) ∙ none))
         ∙ ap (λ k. after_event k (event.Split f)) view
 
-    pub split_kept : before_split a.tier.columns c ≡ None → b.tier.columns ≡ split_at c a.tier.columns → b.splits ≡ c ∷ a.splits → b.rows.items ≡ changed with_split f a.rows.items → IsCoreInMemory whole
+    pub split_kept : before_split a.tier.columns c ≡ None → b.tier.columns ≡ split_at c a.tier.columns → b.splits ≡ c ∷ a.splits → b.rows.items ≡ with_row_changed with_split f a.rows.items → IsCoreInMemory whole
     split_kept none tier splits rows =
         let P : CoreState → Type 0 = λ z. AreParts z b.rows.items a.forks.items a.cells.items a.spent in
         let now = ap (before_split a.tier.columns) (sym at) ∙ none in

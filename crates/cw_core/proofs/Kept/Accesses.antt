@@ -31,7 +31,7 @@ use Rattle.cw_core.specs.declared.row.Row.{Row}
 use Rattle.cw_core.specs.State.{CoreState, waits_for_left, column_of, spent}
 use Rattle.cw_core.specs.Events.{fits, fits_now, is_stop, is_met, met_by, after_event}
 use Rattle.cw_core.specs.Laws.{IsCore}
-use Rattle.cw_core.specs.Kept.{AreParts, IsEntryOf, IsHeld, changed, with_tail, with_place, plain_tail, leaf_row, cell_changed, with_entry}
+use Rattle.cw_core.specs.Kept.{AreParts, IsEntryOf, IsHeld, with_row_changed, with_tail, with_place, plain_tail, leaf_row, cell_changed, with_entry}
 use Rattle.cw_core.proofs.Events.Going.{well, at_place}
 use Rattle.cw_core.proofs.Events.Kept.{events, free_ready}
 use Rattle.cw_core.proofs.Events.Places.{place_grown}
@@ -165,7 +165,7 @@ module _ (k : CoreState) (rows : List Row) (forks : List ℕ) (cells : List Cell
           ∙ ap (λ ls. slice_set ls c (stamps next.entries)) w.lists
           ∙ ap (slice_set m.lists c) (map-append (λ e. e.mark.stamp) cell.entries (entry_of mark write (Rattle.cw_stack.specs.Cells.entries_value cell) ∷ []) ∙ ap (λ us. us ++ stamp ∷ []) (sym (live_is k rows forks cells last w c cell at)))
 
-      made_parts : (r : Row) → slice_get rows p ≡ Some r → length t + 1 < 2 ^ 32 → AreParts made (changed (with_place p) s (changed (with_tail plain_tail) p rows ++ leaf_row s 0 ∷ [])) forks (slice_set cells c next) last
+      made_parts : (r : Row) → slice_get rows p ≡ Some r → length t + 1 < 2 ^ 32 → AreParts made (with_row_changed (with_place p) s (with_row_changed (with_tail plain_tail) p rows ++ leaf_row s 0 ∷ [])) forks (slice_set cells c next) last
       made_parts r here few =
           let f = m.first in
           let core = w.core in
@@ -186,9 +186,9 @@ module _ (k : CoreState) (rows : List Row) (forks : List ℕ) (cells : List Cell
           }
 
     pub access_parts : (r : Row) → slice_get rows p ≡ Some r → length t + 1 < 2 ^ 32 → (cell : CellParts) → slice_get cells c ≡ Some cell
-        → AreParts (after_event k (event.Access s c write)) (changed (with_place p) s (changed (with_tail plain_tail) p rows ++ leaf_row s 0 ∷ [])) forks (cell_changed (with_entry (column_of k s) stamp write) c cells) last
+        → AreParts (after_event k (event.Access s c write)) (with_row_changed (with_place p) s (with_row_changed (with_tail plain_tail) p rows ++ leaf_row s 0 ∷ [])) forks (cell_changed (with_entry (column_of k s) stamp write) c cells) last
     access_parts r here few cell at =
-        let rs = changed (with_place p) s (changed (with_tail plain_tail) p rows ++ leaf_row s 0 ∷ []) in
+        let rs = with_row_changed (with_place p) s (with_row_changed (with_tail plain_tail) p rows ++ leaf_row s 0 ∷ []) in
         let P : CoreState → Type 0 = λ z. AreParts z rs forks (cell_changed (with_entry (column_of k s) stamp write) c cells) last in
         let Q : List CellParts → Type 0 = λ cs. AreParts made rs forks cs last in
         subst P (sym after_made) (subst Q (sym (changed_cell (with_entry (column_of k s) stamp write) c cells cell at)) (made_parts cell at r here few))

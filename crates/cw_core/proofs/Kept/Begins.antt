@@ -25,7 +25,7 @@ use Rattle.cw_tree.proofs.Members.{suffix_same}
 use Rattle.cw_core.specs.declared.row.Row.{Row}
 use Rattle.cw_core.specs.State.{CoreState, waits_for_left, spent}
 use Rattle.cw_core.specs.Events.{fits, fits_now, is_stop, after_event}
-use Rattle.cw_core.specs.Kept.{AreParts, changed, with_tail, with_place, plain_tail, leaf_row}
+use Rattle.cw_core.specs.Kept.{AreParts, with_row_changed, with_tail, with_place, plain_tail, leaf_row}
 use Rattle.cw_core.proofs.Events.Going.{well, at_place}
 use Rattle.cw_core.proofs.Events.Kept.{events, free_ready}
 use Rattle.cw_core.proofs.Kept.Tails.{child_low, elders_more}
@@ -95,7 +95,7 @@ module _ (k : CoreState) (rows : List Row) (forks : List ℕ) (cells : List Cell
         ]
 
     pub begin_parts : (r : Row) → slice_get rows p ≡ Some r → length t + 1 < 2 ^ 32
-        → AreParts (after_event k (event.Begin s)) (changed (with_place (length t)) s (changed (with_tail plain_tail) p rows ++ leaf_row s (r.tail.aborted + 1) ∷ [])) forks cells last
+        → AreParts (after_event k (event.Begin s)) (with_row_changed (with_place (length t)) s (with_row_changed (with_tail plain_tail) p rows ++ leaf_row s (r.tail.aborted + 1) ∷ [])) forks cells last
     begin_parts r at few =
         let c = m.first in
         let core = w.core in

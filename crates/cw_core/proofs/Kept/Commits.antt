@@ -19,7 +19,7 @@ use Rattle.cw_tree.proofs.NodeKinds.{pending_block}
 use Rattle.cw_core.specs.declared.row.Row.{Row}
 use Rattle.cw_core.specs.State.{CoreState, waits_for_left, gap_of}
 use Rattle.cw_core.specs.Events.{fits, after_event}
-use Rattle.cw_core.specs.Kept.{IsTail, IsNow, IsRow, AreRows, AreParts, changed, with_tail, with_place, plain_tail}
+use Rattle.cw_core.specs.Kept.{IsTail, IsNow, IsRow, AreRows, AreParts, with_row_changed, with_tail, with_place, plain_tail}
 use Rattle.cw_core.specs.InMemory.{state_of, IsCoreInMemory}
 use Rattle.cw_core.proofs.Events.Kept.{events}
 use Rattle.cw_core.proofs.Kept.Changed.{length_changed, was_changed}
@@ -96,11 +96,11 @@ module _ (k : CoreState) (rows : List Row) (forks : List ℕ) (cells : List Cell
   row_at n r false true ea ec row h = record { made = made_closed m.first k w.core s may.running may.ready may.within Committed refl end (max m.clock end) z.words n r.made h row.made; tail = tail_at n r false ea row; now = now_at n r true ec row }
   row_at n r false false ea ec row h = record { made = made_closed m.first k w.core s may.running may.ready may.within Committed refl end (max m.clock end) z.words n r.made h row.made; tail = tail_at n r false ea row; now = now_at n r false ec row }
 
-  commit_rows : AreRows z (changed (with_place q) s (changed (with_tail plain_tail) q rows))
+  commit_rows : AreRows z (with_row_changed (with_place q) s (with_row_changed (with_tail plain_tail) q rows))
   commit_rows = record {
-    len = length_changed (with_place q) s (changed (with_tail plain_tail) q rows) ∙ length_changed (with_tail plain_tail) q rows ∙ w.rowed.len ∙ sym (length_closed t b Committed end);
+    len = length_changed (with_place q) s (with_row_changed (with_tail plain_tail) q rows) ∙ length_changed (with_tail plain_tail) q rows ∙ w.rowed.len ∙ sym (length_closed t b Committed end);
     each = λ n r e.
-        (let c = was_changed (with_place q) s (changed (with_tail plain_tail) q rows) n r e in
+        (let c = was_changed (with_place q) s (with_row_changed (with_tail plain_tail) q rows) n r e in
         let d = was_changed (with_tail plain_tail) q rows n c.before c.there in
         let h : n < length t = omega (arith, slice_get_within rows n d.before d.there, w.rowed.len) in
         let P : Row → Type 0 = λ r. IsRow z n r in
@@ -109,7 +109,7 @@ module _ (k : CoreState) (rows : List Row) (forks : List ℕ) (cells : List Cell
         subst P (sym is) (row_at n d.before (nat_eq n q) (nat_eq n s) refl refl (w.rowed.each n d.before d.there) h));
   }
 
-  pub commit_parts : AreParts (after_event k (event.Commit s)) (changed (with_place q) s (changed (with_tail plain_tail) q rows)) forks cells last
+  pub commit_parts : AreParts (after_event k (event.Commit s)) (with_row_changed (with_place q) s (with_row_changed (with_tail plain_tail) q rows)) forks cells last
   commit_parts = record {
     core = (events m.first k (event.Commit s) w.core fit).1;
     few = (let f = w.few in omega (arith, f, length_closed t b Committed end));
@@ -140,7 +140,7 @@ module _ (a : Inside) (i : IsCoreInMemory a) (s : ℕ) (fit : fits (state_of a) 
         ∙ ap (λ n. state_of (record a { tree = closed a.tree (place a.tree s) Committed (a.clock + 1); clock = n; rows = b.rows; gaps = b.gaps })) (drawn ∙ max_next a.clock)
         ∙ ap (λ ws. let y : CoreState = record (after_event j (event.Commit s)) { words = ws } in y) words
 
-    pub commit_kept : b.rows.items ≡ changed (with_place (parent_of a.tree (place a.tree s))) s (changed (with_tail plain_tail) (parent_of a.tree (place a.tree s)) a.rows.items) → IsCoreInMemory whole
+    pub commit_kept : b.rows.items ≡ with_row_changed (with_place (parent_of a.tree (place a.tree s))) s (with_row_changed (with_tail plain_tail) (parent_of a.tree (place a.tree s)) a.rows.items) → IsCoreInMemory whole
     commit_kept rows =
         let P : CoreState → Type 0 = λ z. AreParts z b.rows.items a.forks.items a.cells.items a.spent in
         let Q : List Row → Type 0 = λ rs. AreParts (after_event j (event.Commit s)) rs a.forks.items a.cells.items a.spent in

@@ -12,7 +12,7 @@ use Rattle.cw_open.proofs.Refused.Backed.{dead_finished}
 use Rattle.cw_core.specs.declared.row.Row.{Row}
 use Rattle.cw_core.specs.State.{CoreState}
 use Rattle.cw_core.specs.Events.{fits, after_event}
-use Rattle.cw_core.specs.Kept.{IsNow, IsRow, AreRows, AreParts, IsAtStake, IsVictim, is_counted, changed, with_finished}
+use Rattle.cw_core.specs.Kept.{IsNow, IsRow, AreRows, AreParts, IsAtStake, IsVictim, is_counted, with_row_changed, with_finished}
 use Rattle.cw_core.proofs.Events.Kept.{events}
 use Rattle.cw_core.proofs.Kept.Changed.{length_changed, was_changed}
 use Rattle.cw_core.proofs.Kept.PartsGrow.{unspent, none_spent}
@@ -83,7 +83,7 @@ module _ (k : CoreState) (s : ℕ) (dead : Bool) (running : is_running k.machine
   row_at n r true e w = record { made = made_same k ((s, dead) ∷ m.finished) m.joined m.stopped k.tier k.splits k.halt refl refl n r.made w.made; tail = w.tail; now = now_at n r true e w.now }
   row_at n r false e w = record { made = made_same k ((s, dead) ∷ m.finished) m.joined m.stopped k.tier k.splits k.halt refl refl n r.made w.made; tail = w.tail; now = now_at n r false e w.now }
 
-  rows_finished : (rows : List Row) → AreRows k rows → AreRows z (changed (with_finished dead) s rows)
+  rows_finished : (rows : List Row) → AreRows k rows → AreRows z (with_row_changed (with_finished dead) s rows)
   rows_finished rows w = record {
     len = length_changed (with_finished dead) s rows ∙ w.len;
     each = λ n r e.
@@ -93,7 +93,7 @@ module _ (k : CoreState) (s : ℕ) (dead : Bool) (running : is_running k.machine
   }
 
   pub finish_parts : (rows : List Row) (forks : List ℕ) (cells : List CellParts) (last : Option ℕ) → AreParts k rows forks cells last → fits k (event.Finish s dead) ≡ true
-      → AreParts (after_event k (event.Finish s dead)) (changed (with_finished dead) s rows) forks cells last
+      → AreParts (after_event k (event.Finish s dead)) (with_row_changed (with_finished dead) s rows) forks cells last
   finish_parts rows forks cells last w fit = record {
     core = (events m.first k (event.Finish s dead) w.core fit).1;
     few = w.few;

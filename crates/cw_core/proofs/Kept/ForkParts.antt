@@ -30,7 +30,7 @@ use Rattle.cw_core.specs.declared.row.Row.{Row}
 use Rattle.cw_core.specs.State.{CoreState, waits_for_left, column_of, gap_of, is_split, spent}
 use Rattle.cw_core.specs.Events.{fits, fits_now, is_stop, may_fork, after_event}
 use Rattle.cw_core.specs.Laws.{IsCore}
-use Rattle.cw_core.specs.Kept.{AreParts, AreForks, IsHeld, changed, with_tail, with_wait, plain_tail, fork_row, strand_row, fork_rows}
+use Rattle.cw_core.specs.Kept.{AreParts, AreForks, IsHeld, with_row_changed, with_tail, with_wait, plain_tail, fork_row, strand_row, fork_rows}
 use Rattle.cw_core.proofs.Events.Going.{well, at_place, column_place}
 use Rattle.cw_core.proofs.Events.Kept.{events, free_ready}
 use Rattle.cw_core.proofs.Kept.PartsGrow.{unspent, none_spent}
@@ -274,7 +274,7 @@ module _ (k : CoreState) (rows : List Row) (forks : List ℕ) (cells : List Cell
       ∙ ap (λ j. fork_row s l (suc f) j z ∷ strand_row (suc f) l None ∷ strand_row j r (Some (suc f)) ∷ []) b
 
   abbrev pub rows_after : Bool → List Row
-  rows_after z = changed with_wait s (changed (with_tail plain_tail) p rows ++ fork_rows s (left_column z) (right_column z) f z)
+  rows_after z = with_row_changed with_wait s (with_row_changed (with_tail plain_tail) p rows ++ fork_rows s (left_column z) (right_column z) f z)
 
   pub fork_parts : (z : Bool) → may_fork k ≡ z → f + 3 < 2 ^ 32 → AreParts (after_event k (event.Fork s)) (rows_after z) (forks_after z) cells last
   fork_parts z e few =
@@ -286,7 +286,7 @@ module _ (k : CoreState) (rows : List Row) (forks : List ℕ) (cells : List Cell
         core = subst Q (after_is z e) (events m.first k (event.Fork s) w.core fit).1;
         few = omega (arith, len);
         drawn = (let d = w.drawn in omega (arith, len, closed_apart xs t refl));
-        rowed = subst R (ap (λ ys. changed with_wait s (changed (with_tail plain_tail) p rows ++ ys)) (sym (rows_same (left_column z) (right_column z) z))) rowed;
+        rowed = subst R (ap (λ ys. with_row_changed with_wait s (with_row_changed (with_tail plain_tail) p rows ++ ys)) (sym (rows_same (left_column z) (right_column z) z))) rowed;
         askers = λ i c h. (let q = w.askers i c h in node_grown t xs (λ y. is_tried_kind y.kind) c.asker (node_there (λ y. is_tried_kind y.kind) t c.asker q) ∙ q);
         forked = forks_are z e;
         held = λ c cell h. held z e c cell (w.held c cell h);

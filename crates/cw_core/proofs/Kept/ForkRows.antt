@@ -37,7 +37,7 @@ use Rattle.cw_core.specs.declared.row.Now.{Now}
 use Rattle.cw_core.specs.declared.row.Row.{Row}
 use Rattle.cw_core.specs.State.{CoreState, has_columns, is_split, waits_for_left}
 use Rattle.cw_core.specs.Laws.{IsCore}
-use Rattle.cw_core.specs.Kept.{IsMade, IsTail, IsNow, IsRow, AreRows, IsVictim, is_counted, elder_list, plain_tail, fork_row, strand_row, changed, with_tail, with_wait}
+use Rattle.cw_core.specs.Kept.{IsMade, IsTail, IsNow, IsRow, AreRows, IsVictim, is_counted, elder_list, plain_tail, fork_row, strand_row, with_row_changed, with_tail, with_wait}
 use Rattle.cw_core.proofs.Events.Going.{well, at_place}
 use Rattle.cw_core.proofs.Kept.Tails.{suffix_more, child_low}
 use Rattle.cw_core.proofs.Events.Places.{place_grown, waits_grown, waits_for}
@@ -403,7 +403,7 @@ module _ (first : List ℤ) (k : CoreState) (core : IsCore first k) (s : ℕ) (f
     module _ (lc rc : ℕ) (columned : Bool) (has_is : has_columns z f ≡ columned) (fork_at : columned ≡ true → fork_column u f ≡ lc) (whole : is_split z f ≡ false)
         (left_at : column u (used d) (suc f) ≡ lc) (right_at : column u (used d) (suc (suc f)) ≡ rc) (rows : List Row) (w : AreRows k rows) where
       abbrev once : List Row
-      once = changed (with_tail plain_tail) p rows
+      once = with_row_changed (with_tail plain_tail) p rows
 
       abbrev a : Row
       a = fork_row s lc (suc f) (suc (suc f)) columned
@@ -448,7 +448,7 @@ module _ (first : List ℤ) (k : CoreState) (core : IsCore first k) (s : ℕ) (f
           let Q : ℕ → Type 0 = λ n. IsRow z n x in
           subst P (sym (still n before r (omega (arith, at)) is ∙ same)) (subst Q (sym at) row)
 
-      each : (n : ℕ) (r : Row) → slice_get (changed with_wait s (once ++ a ∷ b ∷ c ∷ [])) n ≡ Some r → IsRow z n r
+      each : (n : ℕ) (r : Row) → slice_get (with_row_changed with_wait s (once ++ a ∷ b ∷ c ∷ [])) n ≡ Some r → IsRow z n r
       each n r e =
           let q = was_changed with_wait s (once ++ a ∷ b ∷ c ∷ []) n r e in
           elim (was_there two_more c n q.before (sym (ap (λ l. slice_get l n) in_turn) ∙ q.there)) [
@@ -462,7 +462,7 @@ module _ (first : List ℤ) (k : CoreState) (core : IsCore first k) (s : ℕ) (f
             ]
           ]
 
-      pub rows_forked : AreRows z (changed with_wait s (once ++ a ∷ b ∷ c ∷ []))
+      pub rows_forked : AreRows z (with_row_changed with_wait s (once ++ a ∷ b ∷ c ∷ []))
       rows_forked = record {
         len = length_changed with_wait s (once ++ a ∷ b ∷ c ∷ []) ∙ ap length in_turn ∙ length_more two_more c ∙ omega (arith, len_two, len);
         each = each;

@@ -16,7 +16,7 @@ use Rattle.cw_open.proofs.Laws.ListSteps.{none_new}
 use Rattle.cw_core.specs.declared.row.Row.{Row}
 use Rattle.cw_core.specs.State.{CoreState, waits_for_left, spent}
 use Rattle.cw_core.specs.Laws.{IsCore}
-use Rattle.cw_core.specs.Kept.{AreParts, changed, with_tail, with_place, plain_tail, leaf_row}
+use Rattle.cw_core.specs.Kept.{AreParts, with_row_changed, with_tail, with_place, plain_tail, leaf_row}
 use Rattle.cw_core.proofs.Events.Going.{well}
 use Rattle.cw_core.proofs.Events.Places.{place_grown}
 use Rattle.cw_core.proofs.Kept.RowsGrow.{tail_here}
@@ -62,7 +62,7 @@ module _ (k : CoreState) (rows : List Row) (forks : List ℕ) (cells : List Cell
   none_tried = rw (get_next t x []) leaf.tried
 
   pub leaf_parts : IsCore m.first with_leaf → is_none (spent k) ≡ true → (r : Row) → slice_get rows p ≡ Some r → length t + 1 < 2 ^ 32
-      → AreParts with_leaf (changed (with_place p) s (changed (with_tail plain_tail) p rows ++ leaf_row s 0 ∷ [])) forks cells last
+      → AreParts with_leaf (with_row_changed (with_place p) s (with_row_changed (with_tail plain_tail) p rows ++ leaf_row s 0 ∷ [])) forks cells last
   leaf_parts is_core unspent r at few =
       let c = m.first in
       let core = w.core in

@@ -13,7 +13,7 @@ use Rattle.cw_core.specs.declared.event.Event.TheVariants as event
 use Rattle.cw_core.specs.declared.row.Row.{Row}
 use Rattle.cw_core.specs.State.{CoreState, waits_for_left, spent}
 use Rattle.cw_core.specs.Events.{fits, fits_now, is_stop, after_event}
-use Rattle.cw_core.specs.Kept.{AreParts, changed, with_tail, with_place, plain_tail, leaf_row}
+use Rattle.cw_core.specs.Kept.{AreParts, with_row_changed, with_tail, with_place, plain_tail, leaf_row}
 use Rattle.cw_core.proofs.Events.Kept.{events, free_ready}
 use Rattle.cw_core.proofs.Kept.Leaves.{leaf_parts}
 use Rattle.cw_core.proofs.Kept.PartsGrow.{unspent}
@@ -24,7 +24,7 @@ module _ (k : CoreState) (rows : List Row) (forks : List ℕ) (cells : List Cell
 
   -- the rows with that of the leaf
   abbrev with_row : List Row
-  with_row = changed (with_place (place k.machine.tree s)) s (changed (with_tail plain_tail) (place k.machine.tree s) rows ++ leaf_row s 0 ∷ [])
+  with_row = with_row_changed (with_place (place k.machine.tree s)) s (with_row_changed (with_tail plain_tail) (place k.machine.tree s) rows ++ leaf_row s 0 ∷ [])
 
   pub out_parts : (v : ℤ) → fits k (event.Out s v) ≡ true → (r : Row) → slice_get rows (place k.machine.tree s) ≡ Some r
       → length k.machine.tree + 1 < 2 ^ 32 → AreParts (after_event k (event.Out s v)) with_row forks cells last

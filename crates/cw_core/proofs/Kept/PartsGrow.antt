@@ -12,7 +12,7 @@ use Rattle.cw_tree.specs.Nodes.{is_strand_kind, is_fork_kind, is_block_kind, is_
 use Rattle.cw_tree.specs.Walks.{IsRooted, has}
 use Rattle.cw_tree.specs.Series.{strand_of, place}
 use Rattle.cw_tree.specs.Shape.{is_closed}
-use Rattle.cw_tree.specs.Refusals.{refused}
+use Rattle.cw_tree.specs.Refusals.{refused_node}
 use Rattle.cw_tree.specs.Attempts.{block_attempt}
 use Rattle.cw_tree.specs.Accesses.{value_in, written_kind}
 use Rattle.cw_tree.proofs.Members.{filter_same, in_below}
@@ -31,7 +31,7 @@ use Rattle.cw_core.specs.declared.event.Event.{Event}
 use Rattle.cw_core.specs.State.{CoreState, waits_for_left, last_refusal, spent}
 use Rattle.cw_core.specs.Events.{fits, fits_now, is_stop}
 use Rattle.cw_core.specs.Laws.{IsCore}
-use Rattle.cw_core.specs.Kept.{IsTail, IsNow, IsRow, AreRows, AreForks, IsEntryOf, IsHeld, IsVictim, is_counted, changed, with_tail, with_place, leaf_row}
+use Rattle.cw_core.specs.Kept.{IsTail, IsNow, IsRow, AreRows, AreForks, IsEntryOf, IsHeld, IsVictim, is_counted, with_row_changed, with_tail, with_place, leaf_row}
 use Rattle.cw_core.proofs.Events.Going.{well}
 use Rattle.cw_core.proofs.Kept.Changed.{length_changed, was_changed, was_there}
 use Rattle.cw_core.proofs.Kept.Stakes.{stake_old, falls_still}
@@ -50,13 +50,13 @@ unspent k e other fit =
 -- what was spent is none still where the conflicts are the same
 pub none_spent : (k z : CoreState) → is_none (spent k) ≡ true → z.machine.conflicts ≡ k.machine.conflicts → z.budget ≡ k.budget → spent z ≡ spent k
 none_spent k z e same budget = by (last_refusal k) refl e where
-  by : (o : Option Conflict) → last_refusal k ≡ o → is_none (option_map (λ c. strand_of k.machine.tree (refused k.machine.tree c)) o) ≡ true → spent z ≡ spent k
+  by : (o : Option Conflict) → last_refusal k ≡ o → is_none (option_map (λ c. strand_of k.machine.tree (refused_node k.machine.tree c)) o) ≡ true → spent z ≡ spent k
   by (Some c) q e = absurd (cc e)
   by None q e =
-      ap (λ cs. option_map (λ c. strand_of z.machine.tree (refused z.machine.tree c)) (find (λ c. nat_eq c.attempt z.budget) cs)) same
-      ∙ ap (λ b. option_map (λ c. strand_of z.machine.tree (refused z.machine.tree c)) (find (λ c. nat_eq c.attempt b) k.machine.conflicts)) budget
-      ∙ ap (option_map (λ c. strand_of z.machine.tree (refused z.machine.tree c))) q
-      ∙ ap (option_map (λ c. strand_of k.machine.tree (refused k.machine.tree c))) (sym q)
+      ap (λ cs. option_map (λ c. strand_of z.machine.tree (refused_node z.machine.tree c)) (find (λ c. nat_eq c.attempt z.budget) cs)) same
+      ∙ ap (λ b. option_map (λ c. strand_of z.machine.tree (refused_node z.machine.tree c)) (find (λ c. nat_eq c.attempt b) k.machine.conflicts)) budget
+      ∙ ap (option_map (λ c. strand_of z.machine.tree (refused_node z.machine.tree c))) q
+      ∙ ap (option_map (λ c. strand_of k.machine.tree (refused_node k.machine.tree c))) (sym q)
 
 module _ (first : List ℤ) (k : CoreState) (core : IsCore first k) (s : ℕ) (running : is_running k.machine s ≡ true) (ready : waits_for_left k s ≡ false) (x : Node) (up : x.parent ≡ place k.machine.tree s) where
   abbrev t : List Node
@@ -168,15 +168,15 @@ module _ (first : List ℤ) (k : CoreState) (core : IsCore first k) (s : ℕ) (r
 
     module _ (rows : List Row) (w : AreRows k rows) where
       abbrev once : List Row
-      once = changed (with_tail tail) p rows
+      once = with_row_changed (with_tail tail) p rows
 
       same_len : length once ≡ length t
       same_len = length_changed (with_tail tail) p rows ∙ w.len
 
-      len : length (changed (with_place q) s (once ++ leaf_row s attempt ∷ [])) ≡ length u
+      len : length (with_row_changed (with_place q) s (once ++ leaf_row s attempt ∷ [])) ≡ length u
       len = length_changed (with_place q) s (once ++ leaf_row s attempt ∷ []) ∙ length_more once (leaf_row s attempt) ∙ ap suc same_len ∙ sym (length_more t x)
 
-      each : (n : ℕ) (r : Row) → slice_get (changed (with_place q) s (once ++ leaf_row s attempt ∷ [])) n ≡ Some r → IsRow y n r
+      each : (n : ℕ) (r : Row) → slice_get (with_row_changed (with_place q) s (once ++ leaf_row s attempt ∷ [])) n ≡ Some r → IsRow y n r
       each n r e =
           let c = was_changed (with_place q) s (once ++ leaf_row s attempt ∷ []) n r e in
           let P : Row → Type 0 = λ r. IsRow y n r in
@@ -195,5 +195,5 @@ module _ (first : List ℤ) (k : CoreState) (core : IsCore first k) (s : ℕ) (r
                 subst P (sym is) (subst Q (sym at) (new_row first k core s running ready x up lists clock m.conflicts words no_strand other attempt attempt_is)))
           ]
 
-      pub rows_grown : AreRows y (changed (with_place q) s (once ++ leaf_row s attempt ∷ []))
+      pub rows_grown : AreRows y (with_row_changed (with_place q) s (once ++ leaf_row s attempt ∷ []))
       rows_grown = record { len = len; each = each }

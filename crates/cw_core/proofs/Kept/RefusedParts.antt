@@ -25,7 +25,7 @@ use Rattle.cw_core.specs.declared.row.Now.{Now}
 use Rattle.cw_core.specs.declared.row.Row.{Row}
 use Rattle.cw_core.specs.State.{CoreState, waits_for_left, spent}
 use Rattle.cw_core.specs.Laws.{IsCore}
-use Rattle.cw_core.specs.Kept.{IsTail, IsNow, IsRow, AreRows, AreForks, IsHeld, AreParts, IsVictim, is_counted, changed, with_tail, with_victim, tried_tail, leaf_row}
+use Rattle.cw_core.specs.Kept.{IsTail, IsNow, IsRow, AreRows, AreForks, IsHeld, AreParts, IsVictim, is_counted, with_row_changed, with_tail, with_victim, tried_tail, leaf_row}
 use Rattle.cw_core.proofs.Events.Going.{well, at_place}
 use Rattle.cw_core.proofs.Kept.Tails.{suffix_more, child_low, children_here}
 use Rattle.cw_core.proofs.Events.Places.{place_grown}
@@ -169,12 +169,12 @@ module _ (first : List ℤ) (k : CoreState) (core : IsCore first k) (s : ℕ) (f
 
       module _ (rows : List Row) (w : AreRows k rows) where
         abbrev once : List Row
-        once = changed (with_tail tail) p rows
+        once = with_row_changed (with_tail tail) p rows
 
         same_len : length once ≡ f
         same_len = length_changed (with_tail tail) p rows ∙ w.len
 
-        each : (n : ℕ) (r : Row) → slice_get (changed (with_victim victim) s (once ++ leaf_row s 0 ∷ [])) n ≡ Some r → IsRow z n r
+        each : (n : ℕ) (r : Row) → slice_get (with_row_changed (with_victim victim) s (once ++ leaf_row s 0 ∷ [])) n ≡ Some r → IsRow z n r
         each n r e =
             let q = was_changed (with_victim victim) s (once ++ leaf_row s 0 ∷ []) n r e in
             let P : Row → Type 0 = λ r. IsRow z n r in
@@ -193,7 +193,7 @@ module _ (first : List ℤ) (k : CoreState) (core : IsCore first k) (s : ℕ) (f
                   subst P (sym is) (subst Q (sym at) (new_row first k core s running ready x refl m.lists m.clock conflicts k.words refl refl 0 (λ e. absurd (let g = quiet f (omega arith) in cc (e, g))))))
             ]
 
-        pub rows_refused : AreRows z (changed (with_victim victim) s (once ++ leaf_row s 0 ∷ []))
+        pub rows_refused : AreRows z (with_row_changed (with_victim victim) s (once ++ leaf_row s 0 ∷ []))
         rows_refused = record {
           len = length_changed (with_victim victim) s (once ++ leaf_row s 0 ∷ []) ∙ length_more once (leaf_row s 0) ∙ ap suc same_len ∙ sym (length_more t x);
           each = each;
@@ -219,7 +219,7 @@ module _ (first : List ℤ) (k : CoreState) (core : IsCore first k) (s : ℕ) (f
     -- whatever victim the strand gets, if it is its victim then
     pub refused_parts : IsCore m.first z → length t + 1 < 2 ^ 32 → (victim : Option ℕ) → ((o : Option ℕ) → IsVictim m s o → IsVictim z.machine s victim) → (r : Row) → slice_get rows p ≡ Some r
         → (spends : Option ℕ) → spent z ≡ spends
-        → AreParts z (changed (with_victim victim) s (changed (with_tail (tried_tail c r.tail)) p rows ++ leaf_row s 0 ∷ [])) forks cells spends
+        → AreParts z (with_row_changed (with_victim victim) s (with_row_changed (with_tail (tried_tail c r.tail)) p rows ++ leaf_row s 0 ∷ [])) forks cells spends
     refused_parts after few victim marked r at spends told = record {
       core = after;
       few = omega (arith, length_more t x);

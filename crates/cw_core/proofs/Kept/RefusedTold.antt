@@ -11,7 +11,7 @@ use Rattle.cw_tree.specs.declared.node.Kind.TheVariants.{Tried}
 use Rattle.cw_tree.specs.Nodes.{is_block_kind, is_pending_state, stamp_of, is_block, is_pending, all_nodes, block_with_stamp, fresh_node}
 use Rattle.cw_tree.specs.Series.{children, strand_of, place}
 use Rattle.cw_tree.specs.Attempts.{tried_cell, same_cell, block_attempt, access_attempt, elders}
-use Rattle.cw_tree.specs.Refusals.{refused}
+use Rattle.cw_tree.specs.Refusals.{refused_node}
 use Rattle.cw_tree.proofs.Lists.{In}
 use Rattle.cw_tree.proofs.Members.{in_below, below_in, suffix_same, filter_all}
 use Rattle.cw_tree.proofs.Walks.There.{node_there}
@@ -95,14 +95,14 @@ module _ (first : List ℤ) (k : CoreState) (core : IsCore first k) (s : ℕ) (f
     z = record k { machine = record m { tree = u; conflicts = m.conflicts ++ conflict ∷ [] } }
 
     -- a budget is spent where the conflict has its last attempt
-    pub spends : is_none (spent k) ≡ true → spent z ≡ cond (nat_eq conflict.attempt k.budget) (Some (strand_of u (refused u conflict))) None
+    pub spends : is_none (spent k) ≡ true → spent z ≡ cond (nat_eq conflict.attempt k.budget) (Some (strand_of u (refused_node u conflict))) None
     spends none =
-        ap (option_map (λ d. strand_of u (refused u d)))
+        ap (option_map (λ d. strand_of u (refused_node u d)))
         (find-append (λ d. nat_eq d.attempt k.budget) m.conflicts (conflict ∷ [])
         ∙ ap (λ o. option_or o (cond (nat_eq conflict.attempt k.budget) (Some conflict) None)) (by (last_refusal k) none)
         ∙ first_of (nat_eq conflict.attempt k.budget))
         ∙ mapped (nat_eq conflict.attempt k.budget) where
-          by : (o : Option Conflict) → is_none (option_map (λ d. strand_of t (refused t d)) o) ≡ true → o ≡ None
+          by : (o : Option Conflict) → is_none (option_map (λ d. strand_of t (refused_node t d)) o) ≡ true → o ≡ None
           by None e = refl
           by (Some d) e = absurd (cc e)
 
@@ -110,15 +110,15 @@ module _ (first : List ℤ) (k : CoreState) (core : IsCore first k) (s : ℕ) (f
           first_of true = refl
           first_of false = refl
 
-          mapped : (b : Bool) → option_map (λ d. strand_of u (refused u d)) (cond b (Some conflict) None) ≡ cond b (Some (strand_of u (refused u conflict))) None
+          mapped : (b : Bool) → option_map (λ d. strand_of u (refused_node u d)) (cond b (Some conflict) None) ≡ cond b (Some (strand_of u (refused_node u conflict))) None
           mapped true = refl
           mapped false = refl
 
     -- what was refused is the access, or the victim
-    pub refused_access : conflict.victim ≡ 0 → refused u conflict ≡ f
+    pub refused_access : conflict.victim ≡ 0 → refused_node u conflict ≡ f
     refused_access zero = ap (λ b. option_map_or (λ v. unwrap_or (block_with_stamp u v) 0) (cond b None (Some conflict.victim)) conflict.asker) (eq-eqb conflict.victim 0 zero) ∙ asks
 
-    pub refused_block : (b : ℕ) → is_pending t b ≡ true → 0 < stamp_of t b → conflict.victim ≡ stamp_of t b → refused u conflict ≡ b
+    pub refused_block : (b : ℕ) → is_pending t b ≡ true → 0 < stamp_of t b → conflict.victim ≡ stamp_of t b → refused_node u conflict ≡ b
     refused_block b pending some named =
         ap (λ z. option_map_or (λ v. unwrap_or (block_with_stamp u v) 0) (cond z None (Some conflict.victim)) conflict.asker) (ne_eqb conflict.victim 0 (λ q. absurd (omega (arith, q, named, some))))
         ∙ ap (λ o. unwrap_or o 0) found where

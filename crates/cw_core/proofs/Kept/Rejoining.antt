@@ -24,12 +24,12 @@ use Rattle.cw_trace.specs.Stands.{fork_column}
 use Rattle.cw_open.specs.Machine.{OpenMachine, has_finished, waits, is_running, falls}
 use Rattle.cw_open.specs.Open.{is_open, AreNested}
 use Rattle.cw_open.proofs.Laws.Named.{strand_is}
+use Rattle.cw_open.proofs.Open.Kinds.{finished_shut, unjoined_open}
 use Rattle.cw_core.specs.declared.row.Row.{Row}
 use Rattle.cw_core.specs.State.{CoreState, is_split}
 use Rattle.cw_core.specs.Laws.{IsCore}
-use Rattle.cw_core.specs.Kept.{IsMade, IsRow, AreRows, IsAtStake, IsVictim, is_counted, changed, with_joined, with_back, least}
+use Rattle.cw_core.specs.Kept.{IsMade, IsRow, AreRows, IsAtStake, IsVictim, is_counted, with_row_changed, with_joined, with_back, least}
 use Rattle.cw_core.proofs.Events.Going.{well}
-use Rattle.cw_core.proofs.Events.Ordering.{open_fork, closed_strand}
 use Rattle.cw_core.proofs.Kept.Changed.{length_changed, was_changed}
 use Rattle.cw_core.proofs.Events.OneFork.{one_fork, none_within}
 use Rattle.cw_core.proofs.Kept.SameTree.{with_same_tree, made_same}
@@ -93,7 +93,7 @@ module _ (first : List ℤ) (k : CoreState) (core : IsCore first k) (askers : (i
   there = node_there (λ y. is_fork_kind y.kind) t f fork
 
   opens : (g : ℕ) → is_fork t g ≡ true → has m.joined g ≡ false → is_open m g ≡ true
-  opens g fg e = open_fork k (well first k core) core.joined core.left_first core.stands g fg e
+  opens g fg e = unjoined_open k.machine g fg e
 
   one : (g : ℕ) → is_fork t g ≡ true → strand_of t g ≡ p → has m.joined g ≡ false → g ≡ f
   one g fg own e = one_fork m tree nested g f fg fork (opens g fg e) (opens f fork unjoined) own
@@ -179,7 +179,7 @@ module _ (first : List ℤ) (k : CoreState) (core : IsCore first k) (askers : (i
                 record {
                   over = sym (ancestor_above t b.child c.asker ne) ∙ b.over;
                   falls = w.falls;
-                  beside = λ g fg own e. absurd (let a = opens g fg e in let y = none_within m tree nested b.child g fg own (closed_strand m b.child s.0 s.1) in cc (a, y));
+                  beside = λ g fg own e. absurd (let a = opens g fg e in let y = none_within m tree nested b.child g fg own (finished_shut m b.child s.0 s.1) in cc (a, y));
                 },
               ))
         ] where
@@ -318,11 +318,11 @@ module _ (first : List ℤ) (k : CoreState) (core : IsCore first k) (askers : (i
           };
         }
 
-    pub join_rows : (rows : List Row) → AreRows k rows → AreRows z (changed with_joined f (changed (with_back o) p rows))
+    pub join_rows : (rows : List Row) → AreRows k rows → AreRows z (with_row_changed with_joined f (with_row_changed (with_back o) p rows))
     join_rows rows w = record {
-      len = length_changed with_joined f (changed (with_back o) p rows) ∙ length_changed (with_back o) p rows ∙ w.len;
+      len = length_changed with_joined f (with_row_changed (with_back o) p rows) ∙ length_changed (with_back o) p rows ∙ w.len;
       each = λ n r e.
-          (let c = was_changed with_joined f (changed (with_back o) p rows) n r e in
+          (let c = was_changed with_joined f (with_row_changed (with_back o) p rows) n r e in
           let b = was_changed (with_back o) p rows n c.before c.there in
           let P : Row → Type 0 = λ r. IsRow z n r in
           elim (cases_eq n f) [

@@ -21,7 +21,7 @@ use Rattle.cw_core.specs.InMemory.{state_of, IsCoreInMemory}
 use Rattle.cw_trace.specs.Columns.{closed_word}
 use Rattle.cw_core.specs.State.{CoreState, waits_for_left, gap_of}
 use Rattle.cw_core.specs.Events.{fits, after_event}
-use Rattle.cw_core.specs.Kept.{IsTail, IsNow, IsRow, IsAtStake, IsVictim, IsHeld, AreRows, AreParts, is_counted, changed, with_tail, with_rolled, without, aborted_tail, stopped_by}
+use Rattle.cw_core.specs.Kept.{IsTail, IsNow, IsRow, IsAtStake, IsVictim, IsHeld, AreRows, AreParts, is_counted, with_row_changed, with_tail, with_rolled, without_number, aborted_tail, stopped_by}
 use Rattle.cw_core.specs.Undone.{AreUndone, NoneBeneath, is_beneath}
 use Rattle.cw_core.proofs.Events.Kept.{events}
 use Rattle.cw_core.proofs.Kept.Changed.{length_changed, was_changed}
@@ -146,7 +146,7 @@ module _ (k : CoreState) (rows : List Row) (forks : List ℕ) (cells : List Cell
       let ne = was.1 in
       absurd (last_victim m.first k w.core s may.running may.ready may.within i v c at was.0.over was.0.falls (omega (arith, le, g, ne))))
 
-  victim_own : (o : Option ℕ) → IsVictim m s o → IsVictim z.machine s (without b o)
+  victim_own : (o : Option ℕ) → IsVictim m s o → IsVictim z.machine s (without_number b o)
   victim_own None h = none_kept s h
   victim_own (Some y) h = own_cond y (nat_eq y b) refl h
 
@@ -162,11 +162,11 @@ module _ (k : CoreState) (rows : List Row) (forks : List ℕ) (cells : List Cell
 
   now_at : (n : ℕ) (r : Row) (c : Bool) → nat_eq n s ≡ c → IsRow k n r → IsNow z n (cond c (with_rolled q b r) r).now
   now_at n r true e row =
-      let P : ℕ → Type 0 = λ n. IsVictim z.machine n (without b r.now.victim) in
+      let P : ℕ → Type 0 = λ n. IsVictim z.machine n (without_number b r.now.victim) in
       let Q : ℕ → Type 0 = λ n. IsVictim m n r.now.victim in
-      now_closed m.first k w.core s may.running may.ready may.within Aborted refl end (max m.clock end) words n r.now q (without b r.now.victim)
+      now_closed m.first k w.core s may.running may.ready may.within Aborted refl end (max m.clock end) words n r.now q (without_number b r.now.victim)
       (λ g. ap (place u) (eqb-true n s e) ∙ place_here m.first k w.core s may.running may.ready may.within Aborted refl end (max m.clock end) words)
-      (λ g. subst P (sym (eqb-true n s e)) (victim_own r.now.victim (subst Q (eqb-true n s e) (row.now.victim g)))) (λ g h. ap (without b) (row.now.quiet g h)) row.now
+      (λ g. subst P (sym (eqb-true n s e)) (victim_own r.now.victim (subst Q (eqb-true n s e) (row.now.victim g)))) (λ g h. ap (without_number b) (row.now.quiet g h)) row.now
   now_at n r false e row =
       let ne : n ≢ s = λ x. absurd (cc (e, eq-eqb n s x)) in
       now_closed m.first k w.core s may.running may.ready may.within Aborted refl end (max m.clock end) words n r.now r.now.place r.now.victim
@@ -179,11 +179,11 @@ module _ (k : CoreState) (rows : List Row) (forks : List ℕ) (cells : List Cell
   row_at count n r false true is ea ec row h = record { made = made_closed m.first k w.core s may.running may.ready may.within Aborted refl end (max m.clock end) words n r.made h row.made; tail = tail_at count n r false is ea row; now = now_at n r true ec row }
   row_at count n r false false is ea ec row h = record { made = made_closed m.first k w.core s may.running may.ready may.within Aborted refl end (max m.clock end) words n r.made h row.made; tail = tail_at count n r false is ea row; now = now_at n r false ec row }
 
-  roll_rows : (count : ℕ) → block_attempt t b ≡ count → AreRows z (changed (with_rolled q b) s (changed (with_tail (aborted_tail count)) q rows))
+  roll_rows : (count : ℕ) → block_attempt t b ≡ count → AreRows z (with_row_changed (with_rolled q b) s (with_row_changed (with_tail (aborted_tail count)) q rows))
   roll_rows count is = record {
-    len = length_changed (with_rolled q b) s (changed (with_tail (aborted_tail count)) q rows) ∙ length_changed (with_tail (aborted_tail count)) q rows ∙ w.rowed.len ∙ sym (length_closed t b Aborted end);
+    len = length_changed (with_rolled q b) s (with_row_changed (with_tail (aborted_tail count)) q rows) ∙ length_changed (with_tail (aborted_tail count)) q rows ∙ w.rowed.len ∙ sym (length_closed t b Aborted end);
     each = λ n r e.
-        (let c = was_changed (with_rolled q b) s (changed (with_tail (aborted_tail count)) q rows) n r e in
+        (let c = was_changed (with_rolled q b) s (with_row_changed (with_tail (aborted_tail count)) q rows) n r e in
         let d = was_changed (with_tail (aborted_tail count)) q rows n c.before c.there in
         let h : n < length t = omega (arith, slice_get_within rows n d.before d.there, w.rowed.len) in
         let P : Row → Type 0 = λ r. IsRow z n r in
@@ -214,9 +214,9 @@ module _ (k : CoreState) (rows : List Row) (forks : List ℕ) (cells : List Cell
             record { node = told.node; touches = told.touches; stamp = told.stamp; wrote = told.wrote; strand = told.strand });
       }
 
-  pub roll_parts : (count : ℕ) → block_attempt t b ≡ count → (new : List CellParts) → AreUndone t b cells new → AreParts (after_event k (event.Roll s)) (changed (with_rolled q b) s (changed (with_tail (aborted_tail count)) q rows)) forks new last
+  pub roll_parts : (count : ℕ) → block_attempt t b ≡ count → (new : List CellParts) → AreUndone t b cells new → AreParts (after_event k (event.Roll s)) (with_row_changed (with_rolled q b) s (with_row_changed (with_tail (aborted_tail count)) q rows)) forks new last
   roll_parts count is new undone =
-      let P : CoreState → Type 0 = λ x. AreParts x (changed (with_rolled q b) s (changed (with_tail (aborted_tail count)) q rows)) forks new last in
+      let P : CoreState → Type 0 = λ x. AreParts x (with_row_changed (with_rolled q b) s (with_row_changed (with_tail (aborted_tail count)) q rows)) forks new last in
       let Q : CoreState → Type 0 = λ x. Rattle.cw_core.specs.Laws.IsCore m.first x in
       let fs = forks_closed m.first k w.core s may.running may.ready may.within Aborted refl end (max m.clock end) words forks w.forked in
       let rs = roll_rows count is in
@@ -265,7 +265,7 @@ module _ (a : Inside) (i : IsCoreInMemory a) (s : ℕ) (fit : fits (state_of a) 
         ∙ sym (is_rolled j a.rows.items a.forks.items a.cells.items a.spent i s fit)
 
     pub roll_kept : (count : ℕ) → block_attempt a.tree (place a.tree s) ≡ count
-        → o.rows.items ≡ changed (with_rolled (parent_of a.tree (place a.tree s)) (place a.tree s)) s (changed (with_tail (aborted_tail count)) (parent_of a.tree (place a.tree s)) a.rows.items) → IsCoreInMemory whole
+        → o.rows.items ≡ with_row_changed (with_rolled (parent_of a.tree (place a.tree s)) (place a.tree s)) s (with_row_changed (with_tail (aborted_tail count)) (parent_of a.tree (place a.tree s)) a.rows.items) → IsCoreInMemory whole
     roll_kept count is rows =
         let P : CoreState → Type 0 = λ z. AreParts z o.rows.items a.forks.items o.cells.items a.spent in
         let Q : List Row → Type 0 = λ rs. AreParts (after_event j (event.Roll s)) rs a.forks.items o.cells.items a.spent in

@@ -15,15 +15,16 @@ use Rattle.cw_trace.proofs.Stands.Counting.{fork_column_one}
 use Rattle.cw_trace.proofs.Keeps.Meaning.{odd_column}
 use Rattle.cw_open.specs.Machine.{OpenMachine}
 use Rattle.cw_open.specs.Open.{is_open}
+use Rattle.cw_open.proofs.Open.Kinds.{unjoined_open}
 use Rattle.cw_core.specs.declared.event.Event.TheVariants as event
 use Rattle.cw_trace.proofs.Marks.Edits.{length_parts}
 use Rattle.cw_core.specs.declared.row.Row.{Row}
 use Rattle.cw_core.specs.State.{CoreState, joined_columns, has_columns, is_split}
 use Rattle.cw_core.specs.Events.{fits, fits_now, is_unstarted, fork_at, after_event}
-use Rattle.cw_core.specs.Kept.{IsRow, AreRows, AreParts, changed, with_split}
+use Rattle.cw_core.specs.Kept.{IsRow, AreRows, AreParts, with_row_changed, with_split}
 use Rattle.cw_core.proofs.Events.Kept.{events}
 use Rattle.cw_core.proofs.Events.Going.{well, root_open}
-use Rattle.cw_core.proofs.Events.Ordering.{open_fork, ordered, unjoined}
+use Rattle.cw_core.proofs.Events.Ordering.{ordered, unjoined}
 use Rattle.cw_core.proofs.Kept.Changed.{length_changed, was_changed}
 use Rattle.cw_core.proofs.Kept.PartsGrow.{unspent, none_spent}
 use Rattle.cw_core.proofs.Kept.SameTree.{with_same_tree, made_same, forks_same, held_same}
@@ -103,7 +104,7 @@ module _ (k : CoreState) (f : ℕ) (may : MaySplit k f) where
     };
   }
 
-  pub split_rows : (rows : List Row) → AreRows k rows → AreRows z (changed with_split f rows)
+  pub split_rows : (rows : List Row) → AreRows k rows → AreRows z (with_row_changed with_split f rows)
   split_rows rows w = record {
     len = length_changed with_split f rows ∙ w.len;
     each = λ n r e.
@@ -124,7 +125,7 @@ module _ (k : CoreState) (f : ℕ) (may : MaySplit k f) where
   after_early c e = ap (λ b. let y : CoreState = record k { tier = cond b (split_at col k.tier) k.tier; splits = cond b (col ∷ k.splits) k.splits } in y) (ap is_none e)
 
   pub split_parts : (rows : List Row) (forks : List ℕ) (cells : List CellParts) (last : Option ℕ) → AreParts k rows forks cells last → fits k (event.Split f) ≡ true → before_split k.tier col ≡ None
-      → AreParts z (changed with_split f rows) forks cells last
+      → AreParts z (with_row_changed with_split f rows) forks cells last
   split_parts rows forks cells last w fit now =
       let Q : CoreState → Type 0 = λ z. Rattle.cw_core.specs.Laws.IsCore m.first z in
       record {
@@ -160,7 +161,7 @@ is_before k f rows forks cells last w may c bars =
     let first = k.machine.first in
     let wl = well first k core in
     let t = k.machine.tree in
-    let opened = open_fork k wl core.joined core.left_first core.stands f may.fork may.unjoined in
+    let opened = unjoined_open k.machine f may.fork may.unjoined in
     let root = root_open first k core f (node_there (λ y. is_fork_kind y.kind) t f may.fork) opened in
     let next = bars k.words t k.splits (joined_columns k) (is_open k.machine) f core.stands wl.sound.tree (ordered k wl core.joined core.left_first core.stands root) may.fork refl (unjoined k wl core.joined core.left_first core.stands f may.fork may.unjoined) in
     let g = next.fork in

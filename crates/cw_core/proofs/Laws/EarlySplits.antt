@@ -11,6 +11,7 @@ use Rattle.cw_trace.proofs.Outward.Barring.{none_bars, next_bars}
 use Rattle.cw_trace.proofs.Keeps.Meaning.{odd_column}
 use Rattle.cw_open.specs.Open.{is_open}
 use Rattle.cw_open.proofs.Open.Trees.{IsWell}
+use Rattle.cw_open.proofs.Open.Kinds.{unjoined_open}
 use Rattle.cw_core.specs.declared.event.Event.TheVariants as event
 use Rattle.cw_core.specs.declared.event.Reply.TheVariants as reply
 use Rattle.cw_core.specs.State.{joined_columns}
@@ -19,7 +20,7 @@ use Rattle.cw_core.specs.Laws.{Bars, IsNextOut, SplitsAreAnswered}
 use Rattle.cw_core.proofs.Events.Forks.{names}
 use Rattle.cw_core.proofs.Events.Going.{well, root_open}
 use Rattle.cw_core.proofs.InMemory.Out.{now_of}
-use Rattle.cw_core.proofs.Events.Ordering.{columns_used, open_fork, ordered, unjoined}
+use Rattle.cw_core.proofs.Events.Ordering.{columns_used, ordered, unjoined}
 use Rattle.cw_core.proofs.Kept.Splitting.{MaySplit, may_split, fork_is}
 
 pub answered : SplitsAreAnswered
@@ -36,7 +37,7 @@ answered first k f core fit = by (is_early k f) refl where
   in_order : IsOrdered k.tier k.machine.tree k.splits (joined_columns k) (is_open k.machine)
   in_order =
       let there = node_there (λ y. is_fork_kind y.kind) k.machine.tree f may.fork in
-      ordered k w core.joined core.left_first core.stands (root_open first k core f there (open_fork k w core.joined core.left_first core.stands f may.fork may.unjoined))
+      ordered k w core.joined core.left_first core.stands (root_open first k core f there (unjoined_open k.machine f may.fork may.unjoined))
 
   by : (o : Option ℕ) → is_early k f ≡ o
       → ((reply_to k (event.Split f) ≡ reply.Done) × ((m : ℕ) → Bars k f m → ⊥)) ⊎ ((m : ℕ) × (reply_to k (event.Split f) ≡ reply.Early m) × IsNextOut k f m)

@@ -25,7 +25,7 @@ use Rattle.cw_record.specs.Coherent.{StrandEnded, HasNoOpenFork, Follows, EndSta
 use Rattle.cw_record.proofs.ClosedRun.LeftRuns.{followed_coherent}
 use Rattle.cw_record.proofs.ClosedRun.RenamedStrands.{moved, moved_at, follows_at, ended_at, shut_renamed}
 use Rattle.cw_course.specs.Courses.{Course, Goes, Stops, there, size, logs_of}
-use Rattle.cw_course.specs.Closings.{hung, base_of, put_together, tree_of, HasNone, AreApart, bare, FaultsIn, Ends, IsClosing, WorkedAreCoherent}
+use Rattle.cw_course.specs.Closings.{hung, base_of, put_together, tree_of, HasNone, AreApart, bare_log, FaultsIn, Ends, IsClosing, WorkedAreCoherent}
 use Rattle.cw_course.proofs.Closings.Following.{B, F, R}
 use Rattle.cw_course.proofs.Closings.Trees.{IsTreeOf, all_held, follows, live_ended}
 use Rattle.cw_course.proofs.Closings.Faulting.{Faults, at_fault}
@@ -35,25 +35,25 @@ use Rattle.cw_course.proofs.Closings.Renaming.{chain_low, place_renamed}
 
 -- ## Without conflicts
 
-bare_base : (ls : List Log) (c : ℕ) → base_of (map bare ls) c ≡ base_of ls c
+bare_base : (ls : List Log) (c : ℕ) → base_of (map bare_log ls) c ≡ base_of ls c
 bare_base [] c = refl
 bare_base (l ∷ ls) c = ap (λ n. cond (nat_eq l.column c) 0 (length l.nodes + n)) (bare_base ls c)
 
-bare_together : (all ls : List Log) (base : ℕ) → put_together (map bare all) base (map bare ls) ≡ put_together all base ls
+bare_together : (all ls : List Log) (base : ℕ) → put_together (map bare_log all) base (map bare_log ls) ≡ put_together all base ls
 bare_together all [] base = refl
 bare_together all (l ∷ ls) base =
-    ap (λ n. hung base (n + l.fork) l.nodes ++ put_together (map bare all) (base + length l.nodes) (map bare ls)) (bare_base all l.from)
+    ap (λ n. hung base (n + l.fork) l.nodes ++ put_together (map bare_log all) (base + length l.nodes) (map bare_log ls)) (bare_base all l.from)
     ∙ ap (λ xs. hung base (base_of all l.from + l.fork) l.nodes ++ xs) (bare_together all ls (base + length l.nodes))
 
-bare_none : (c : ℕ) (ls : List Log) → HasNone c ls → HasNone c (map bare ls)
+bare_none : (c : ℕ) (ls : List Log) → HasNone c ls → HasNone c (map bare_log ls)
 bare_none c [] w = tt
 bare_none c (l ∷ ls) w = (w.0, bare_none c ls w.1)
 
-bare_apart : (ls : List Log) → AreApart ls → AreApart (map bare ls)
+bare_apart : (ls : List Log) → AreApart ls → AreApart (map bare_log ls)
 bare_apart [] w = tt
 bare_apart (l ∷ ls) w = (bare_none l.column ls w.0, bare_apart ls w.1)
 
-module _ {A : Type 0} (s : Strands A) (first : List ℤ) (budget : ℕ) (all : List Log) (stop : Option Stop) (c : Closed) (k : IsClosing first budget all stop c) (cs : Course) (written : map bare all ≡ logs_of cs 0 0 0) where
+module _ {A : Type 0} (s : Strands A) (first : List ℤ) (budget : ℕ) (all : List Log) (stop : Option Stop) (c : Closed) (k : IsClosing first budget all stop c) (cs : Course) (written : map bare_log all ≡ logs_of cs 0 0 0) where
   abbrev t : List Node
   t = tree_of all
 
@@ -145,14 +145,14 @@ module _ {A : Type 0} (s : Strands A) (first : List ℤ) (budget : ℕ) (all : L
       })
 
 coherent_stopped : {A : Type 0} (s : Strands A) (first : List ℤ) (budget : ℕ) (all : List Log) (h : Halt) (column strand : ℕ) (c : Closed) → (k : IsClosing first budget all (Some (record { halt = h; column = column; strand = strand })) c)
-    → (cs : Course) (written : map bare all ≡ logs_of cs 0 0 0) → Ends s (Some (record { halt = h; column = column; strand = strand })) cs → (c.halt ≡ Some Memory → ⊥)
+    → (cs : Course) (written : map bare_log all ≡ logs_of cs 0 0 0) → Ends s (Some (record { halt = h; column = column; strand = strand })) cs → (c.halt ≡ Some Memory → ⊥)
     → IsCoherent s first budget c.tree c.journals c.conflicts (end_left first budget c false)
 coherent_stopped s first budget all (Fault y kind) column strand c k cs written end memory =
     coherent_from s first budget all _ c k cs written _ k.together.halt end.0 (fault_stands s first budget all _ c k cs written kind column strand end.0 end.1)
 coherent_stopped s first budget all (Budget y) column strand c k cs written end memory = coherent_from s first budget all _ c k cs written _ k.together.halt end tt
 coherent_stopped s first budget all Memory column strand c k cs written end memory = absurd (memory k.together.halt)
 
-coherent_so : {A : Type 0} (s : Strands A) (first : List ℤ) (budget : ℕ) (all : List Log) (stop : Option Stop) (c : Closed) (k : IsClosing first budget all stop c) (cs : Course) (written : map bare all ≡ logs_of cs 0 0 0)
+coherent_so : {A : Type 0} (s : Strands A) (first : List ℤ) (budget : ℕ) (all : List Log) (stop : Option Stop) (c : Closed) (k : IsClosing first budget all stop c) (cs : Course) (written : map bare_log all ≡ logs_of cs 0 0 0)
     → Ends s stop cs → (c.halt ≡ Some Memory → ⊥) → IsCoherent s first budget c.tree c.journals c.conflicts (end_left first budget c false)
 coherent_so s first budget all None c k cs written (b, g, o) memory =
     coherent_from s first budget all None c k cs written None k.together.halt (there g) (finished_stands s first budget all None c k cs written k.together.halt b g o)

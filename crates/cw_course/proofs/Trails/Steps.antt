@@ -16,7 +16,7 @@ set_next : {A : Type 0} → (xs ys : List A) (y z : A) → slice_set (xs ++ y �
 set_next [] ys y z = refl
 set_next (x ∷ xs) ys y z = ap (λ us. x ∷ us) (set_next xs ys y z)
 
-closed_at : (t : List Node) (b : ℕ) (state : BlockState) (end : ℕ) (x : Node) → slice_get t b ≡ Some x → closed t b state end ≡ slice_set t b (record x { state = state; end = end })
+pub closed_at : (t : List Node) (b : ℕ) (state : BlockState) (end : ℕ) (x : Node) → slice_get t b ≡ Some x → closed t b state end ≡ slice_set t b (record x { state = state; end = end })
 closed_at t b state end x e = rw e refl
 
 -- so many nodes stand behind a course

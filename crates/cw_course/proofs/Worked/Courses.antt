@@ -1,22 +1,18 @@
 -- Small programs and what their strands did.
-use Rattle.std.proofs.Common.{◌≡◌, ℕ, ◌<◌, List, [], ◌∷◌, length, refl, ap, sym, ◌∙◌, subst, arith, lit<, pos, Option, Some, None, true}
-use Rattle.std.specs.Prelude.{◌^◌}
-use Rattle.std.proofs.lemmas.Bool.{lt-ltb, ltb-true}
+use Rattle.std.proofs.Common.{◌≡◌, ℕ, ◌<◌, List, [], ◌∷◌, refl, ap, sym, ◌∙◌, subst, arith, lit<, pos, Option, Some, None}
 use Rattle.cw_code.specs.declared.Back.{Back}
 use Rattle.cw_strand.specs.declared.want.Want.{Want}
 use Rattle.cw_strand.specs.declared.want.Want.TheVariants.{Store, Out as Shows}
 use Rattle.cw_strand.specs.declared.want.Given.TheVariants.{Back as Wrote}
 use Rattle.cw_tree.specs.declared.node.Kind.TheVariants.{Out}
 use Rattle.cw_tree.specs.declared.node.BlockState.TheVariants.{Committed}
-use Rattle.cw_tree.specs.declared.node.Node.{Node}
 use Rattle.cw_tree.specs.declared.closed.Halt.{Halt}
 use Rattle.cw_tree.specs.declared.closed.Halt.TheVariants.{Budget}
-use Rattle.cw_tree.specs.Nodes.{parent_of, is_strand}
 use Rattle.cw_tree.specs.Walks.{IsNumbered}
 use Rattle.cw_tree.specs.declared.conflict.Conflict.{Conflict}
 use Rattle.cw_tree.specs.WorkedRun.{refused_write}
 use Rattle.cw_tree.proofs.Worked.KeptRuns.{holds}
-use Rattle.cw_tree.proofs.Worked.Checks.{all_below, each_below, implied, rooted_test}
+use Rattle.cw_tree.proofs.Worked.Checks.{is_numbered}
 use Rattle.cw_log.specs.declared.log.Log.{Log}
 use Rattle.cw_record.proofs.WorkedEnds.Victim.{at_victim}
 use Rattle.cw_record.specs.Scripts as script
@@ -36,13 +32,6 @@ less a b h e = omega arith
 
 other : (a b : ℕ) → a < b → b ≡ a → ⊥
 other a b h e = less a b h (sym e)
-
-numbered : (t : List Node) → is_strand t 0 ≡ true → all_below (rooted_test t) (length t) ≡ true → length t < 2 ^ 32 → IsNumbered t
-numbered t root rooted few = record {
-  root = root;
-  rooted = λ n p h. ltb-true (parent_of t n) n (implied _ _ (each_below (rooted_test t) (length t) rooted n h) (lt-ltb 0 n p));
-  few = few;
-}
 
 -- ## A value that is read
 
@@ -145,7 +134,7 @@ finishes_all = record {
   closing = record {
     together = record {
       apart = ((other 0 2 (lit< tt), tt), (tt, tt));
-      numbered = numbered (tree_of nested_logs) refl refl (lit< tt);
+      numbered = is_numbered (tree_of nested_logs) refl refl (lit< tt);
       tree = refl;
       conflicts = refl;
       halt = refl;
@@ -171,7 +160,7 @@ logs_apart : (at : ℕ) → AreApart (logs_at at)
 logs_apart at = ((other 0 1 (lit< tt), (other 0 2 (lit< tt), tt)), ((other 1 2 (lit< tt), tt), (tt, tt)))
 
 mixes_stand : HasStates (scripted mixes) mixed (logs_at 5)
-mixes_stand = has_states (scripted mixes) mixed (there mixes_go) (logs_apart 5) (numbered (tree_of (logs_at 5)) refl refl (lit< tt))
+mixes_stand = has_states (scripted mixes) mixed (there mixes_go) (logs_apart 5) (is_numbered (tree_of (logs_at 5)) refl refl (lit< tt))
 
 -- the fork of a right strand has none where its log hangs from another
 not_hung : AreWorked (scripted mixes) (logs_at 2) None → ⊥
@@ -179,7 +168,7 @@ not_hung w =
     let (b, g, o) = w.ends in
     let N : List Log → Type 0 = λ ls. IsNumbered (tree_of ls) in
     let S : List Log → Type 0 = λ ls. HasStates (scripted mixes) w.course ls in
-    let states = has_states (scripted mixes) w.course (there g) (subst AreApart w.written (logs_apart 2)) (subst N w.written (numbered (tree_of (logs_at 2)) refl refl (lit< tt))) in
+    let states = has_states (scripted mixes) w.course (there g) (subst AreApart w.written (logs_apart 2)) (subst N w.written (is_numbered (tree_of (logs_at 2)) refl refl (lit< tt))) in
     let here = subst S (sym w.written) states in
     (here.follows.fits 5 _ refl).1
 
@@ -209,7 +198,7 @@ closes_all = record {
   closing = record {
     together = record {
       apart = ((other 0 1 (lit< tt), (other 0 2 (lit< tt), tt)), ((other 1 2 (lit< tt), tt), (tt, tt)));
-      numbered = numbered (tree_of spent_logs) refl refl (lit< tt);
+      numbered = is_numbered (tree_of spent_logs) refl refl (lit< tt);
       tree = refl;
       conflicts = refl;
       halt = refl;

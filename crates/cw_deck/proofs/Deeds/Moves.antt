@@ -3,7 +3,7 @@ use Rattle.std.proofs.Common.{◌≡◌, ◌≢◌, ℕ, zero, suc, List, [], �
 use mathlib.Core.Option.{some, some-ne-none, some-injective}
 use lib.ListN.{get_elem?}
 use Rattle.std.proofs.lemmas.List.{length-set, length-append}
-use Rattle.crossbeam_deque.specs.Tasks.{Pushes, Takes, Pops, Forks, Finds, FindsFew}
+use Rattle.crossbeam_deque.specs.Tasks.{Pushes, Takes, Pops, Forks, Finds}
 use Rattle.crossbeam_deque.proofs.Lists.{at_set, set_again}
 use Rattle.cw_deck.specs.declared.deed.Deed.{Deed}
 use Rattle.cw_deck.specs.declared.deed.Deed.TheVariants.{Pushed, Popped, Stolen}
@@ -57,9 +57,6 @@ module _ {T : Type 0} where
       others = λ j le. k.2.others j (let one : List (List (Deed T)) = [] ∷ [] in let r = length-append known one in omega arith);
     },
   )
-
-  pub finds_few : (most end : ℕ) (ds : List (Deed T)) → FindsFew HasHistory most end ds (MayHold most ds)
-  finds_few most end ds tasks known few k at = (k.0, tasks, end, k.1, k.2.each end ds at, few)
 
   pub finds_none : (end : ℕ) (ds : List (Deed T)) → Finds HasHistory end ds (MayHold 0 ds)
   finds_none end ds known k at = (k.0, [], end, k.1, k.2.each end ds at, omega arith)

@@ -1,19 +1,16 @@
 -- What was pushed is what was taken and what is left.
-use Rattle.std.proofs.Common.{◌≡◌, ℕ, List, [], ◌∷◌, ◌++◌, ◌+◌, length, map, sym, refl, ap, ◌∙◌, subst}
+use Rattle.std.proofs.Common.{◌≡◌, ℕ, List, [], ◌∷◌, ◌++◌, ◌+◌, map, sym, refl, ap, ◌∙◌, subst}
 use Rattle.std.specs.List.Sorted.{IsPermutation}
-use Rattle.std.proofs.lemmas.List.{append-nil, append_assoc, length-append, map-append}
+use Rattle.std.proofs.lemmas.List.{append-nil, append_assoc, map-append}
 use Rattle.std.proofs.lemmas.List.Sorted.{IsPermutation-refl, IsPermutation-trans, IsPermutation-append_comm, IsPermutation-append_left, IsPermutation-append_right}
 use Rattle.cw_deck.specs.declared.deed.Deed.{Deed}
 use Rattle.cw_deck.specs.declared.deed.Deed.TheVariants.{Pushed, Popped, Stolen}
-use Rattle.cw_deck.specs.Deeds.{IsDone, IsHistory, tasks_of, pushed_by, taken_by, pushes, IsBalanced, NoTaskIsLost}
+use Rattle.cw_deck.specs.Deeds.{IsDone, IsHistory, tasks_of, pushed_by, taken_by, IsBalanced, NoTaskIsLost}
 
 module _ {T : Type 0} where
   with_one : (f : Deed T → List T) (ds : List (Deed T)) (d : Deed T) → tasks_of f (ds ++ d ∷ []) ≡ tasks_of f ds ++ f d
   with_one f [] d = append-nil (f d)
   with_one f (x ∷ xs) d = ap (λ ys. f x ++ ys) (with_one f xs d) ∙ sym (append_assoc (f x) (tasks_of f xs) (f d))
-
-  pub pushes_grow : (ds : List (Deed T)) (d : Deed T) → pushes (ds ++ d ∷ []) ≡ pushes ds + length (pushed_by d)
-  pushes_grow ds d = ap length (with_one pushed_by ds d) ∙ length-append (tasks_of pushed_by ds) (pushed_by d)
 
   along : {xs xs' ys ys' : List T} → xs ≡ xs' → ys ≡ ys' → IsPermutation xs ys → IsPermutation xs' ys'
   along {xs = xs} {ys' = ys'} e e' p = subst (λ zs. IsPermutation zs ys') e (subst (λ zs. IsPermutation xs zs) e' p)

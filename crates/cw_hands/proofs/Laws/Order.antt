@@ -37,10 +37,11 @@ use Rattle.cw_open.specs.Runs.{Rules, Allowed, at_any_time}
 use Rattle.cw_open.specs.LeftFirst.{makers}
 use Rattle.cw_open.proofs.Open.Trees.{IsWell}
 use Rattle.cw_open.proofs.Open.TreeSteps.{free_runs}
+use Rattle.cw_open.proofs.Open.Kinds.{unjoined_open}
 use Rattle.cw_hands.specs.Shared.{SharedMoment, has_columns, is_split, is_whole, is_owed, is_open_yet, moment_of, waits_for_left, waits_for_merge, is_ready, has_room, words_after, first_shared, after_shared, SharedStep, makes, splits, merges, RunsTogether, start, more}
 use Rattle.cw_hands.specs.Laws.{OrderIsKept}
 use Rattle.cw_hands.proofs.Shared.Going.{none_owed}
-use Rattle.cw_hands.proofs.Shared.Order.{at_no_fork, open_fork, wide_fork}
+use Rattle.cw_hands.proofs.Shared.Order.{at_no_fork, wide_fork}
 use Rattle.cw_hands.proofs.Shared.Forked.{unjoined, same_wide}
 use Rattle.cw_hands.proofs.Shared.Seen.{access_plain}
 use Rattle.cw_hands.proofs.Laws.Kept.{IsPassed, IsOwing, owed_is, owing_on, same_nodes, grown, other_fields}
@@ -120,7 +121,7 @@ module _ (s : SharedMoment) (w : IsWell s.machine) (k : Keeps s.columns s.words 
       same_nodes s (record s { machine = record s.machine { joined = f ∷ s.machine.joined }; joins = cond z (fork_column t f ∷ s.joins) s.joins }) refl (λ n. refl) (λ g h. (h, refl))
       (λ g h. or_right (nat_eq f g) (has m.joined g) h) (new_joins z) (more_joins z)
       (λ g h. elim (or_cases (nat_eq f g) (has m.joined g) h) [
-        | inl q ↦ (let same : f ≡ g = eqb-true f g q in inr (sym (ap (is_open m) same) ∙ open_fork s f fork unjoined))
+        | inl q ↦ (let same : f ≡ g = eqb-true f g q in inr (sym (ap (is_open m) same) ∙ unjoined_open s.machine f fork unjoined))
         | inr was ↦ inl was
       ])
       (λ g h. h) (λ n h. h) (λ y h. h) (λ n h. refl) where

@@ -1,10 +1,10 @@
 -- A strand that runs and is ready may go on where it stands.
 use Rattle.std.proofs.Common.{◌≡◌, ℕ, ◌<◌, List, length, ap, ◌∙◌, arith, true, false, inl, inr, subst, nat_lt, nat_eq}
-use Rattle.std.specs.Prelude.{◌&&◌, ◌||◌, not}
+use Rattle.std.specs.Prelude.{◌&&◌, not}
 use Rattle.std.specs.List.{list_any}
-use Rattle.std.proofs.lemmas.Bool.{and_parts, and_from, and_left, and_right, and_cases, or_from, not-true, not-false, not_from_false, not_from_true, false_from_ne_true, true_from_ne_false, lt-ltb, eq-eqb}
+use Rattle.std.proofs.lemmas.Bool.{and_parts, and_from, and_cases, not-true, not-false, not_from_false, false_from_ne_true, true_from_ne_false, lt-ltb, eq-eqb}
 use Rattle.cw_tree.specs.declared.node.Node.{Node}
-use Rattle.cw_tree.specs.Nodes.{parent_of, is_strand, is_fork, is_pending, all_nodes}
+use Rattle.cw_tree.specs.Nodes.{parent_of, is_strand, is_fork, all_nodes}
 use Rattle.cw_tree.specs.Walks.{has}
 use Rattle.cw_tree.specs.Series.{strand_of, children, place}
 use Rattle.cw_tree.specs.Shape.{IsTree}
@@ -19,15 +19,9 @@ use Rattle.cw_trace.specs.Running.{IsUnsplit, MayGoOn}
 use Rattle.cw_open.specs.Machine.{OpenMachine, has_finished, is_running}
 use Rattle.cw_open.specs.Open.{is_open, AreNested}
 use Rattle.cw_open.proofs.Open.Standing.{stands, place_holds, place_open, none_open}
+use Rattle.cw_open.proofs.Open.Kinds.{finished_shut}
 use Rattle.cw_hands.specs.Shared.{SharedMoment, has_columns, is_split, is_owed, is_open_yet, waits_for_left, waits_for_merge, is_ready}
 use Rattle.cw_hands.proofs.Shared.Order.{at_no_fork, wide_fork, wide_low, yet}
-
--- a strand that finished is open no more
-pub finished_shut : (m : OpenMachine) (s : ℕ) → is_strand m.tree s ≡ true → has_finished m s ≡ true → is_open m s ≡ false
-finished_shut m s strand done =
-    or_from (is_strand m.tree s && not (has_finished m s) || is_fork m.tree s && not (has m.joined s)) (is_pending m.tree s)
-    (or_from (is_strand m.tree s && not (has_finished m s)) (is_fork m.tree s && not (has m.joined s)) (and_right (is_strand m.tree s) _ (not_from_true _ done)) (and_left (is_fork m.tree s) _ (false_from_ne_true (is_fork m.tree s) (λ e. absurd (cc (strand, fork_no_strand m.tree s e))))))
-    (false_from_ne_true (is_pending m.tree s) (λ e. absurd (cc (strand_no_block m.tree s strand, pending_block m.tree s e))))
 
 module _ (s : SharedMoment) (tree : IsTree s.machine.tree) (w : AreNested s.machine.tree (is_open s.machine)) where
   abbrev m : OpenMachine

@@ -21,9 +21,9 @@ use Rattle.cw_trace.proofs.Keeps.TierLaws.{closed_shape}
 use Rattle.cw_open.specs.Machine.{OpenMachine, has_finished}
 use Rattle.cw_open.specs.Open.{is_open}
 use Rattle.cw_open.proofs.Open.Trees.{open_more}
+use Rattle.cw_open.proofs.Open.Kinds.{finished_shut}
 use Rattle.cw_hands.specs.Shared.{SharedMoment, has_columns, is_open_yet}
 use Rattle.cw_hands.proofs.Shared.Order.{at_wide, at_no_fork, at_other, wide_fork}
-use Rattle.cw_hands.proofs.Shared.Going.{finished_shut}
 
 -- ## Two tests of nodes
 

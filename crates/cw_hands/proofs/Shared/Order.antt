@@ -1,7 +1,7 @@
 -- Open nodes are ordered as the tier needs it, though a fork with columns is open until its traces were merged.
 use Rattle.std.proofs.Common.{◌≡◌, ℕ, ◌+◌, ◌<◌, List, length, ap, sym, ◌∙◌, arith, true, false, cond, inl, inr, nat_lt, nat_eq}
 use Rattle.std.specs.Prelude.{◌⊎◌, ◌&&◌, ◌||◌, not}
-use Rattle.std.proofs.lemmas.Bool.{and_parts, and_from, or_cases, or_left, or_right, not-true, not_from_false, false_from_ne_true, cases_Bool, cases_lt, cases_eq, lt-ltb, ltb-true, eq-eqb}
+use Rattle.std.proofs.lemmas.Bool.{and_parts, and_from, or_left, not-true, not_from_false, false_from_ne_true, cases_Bool, cases_lt, cases_eq, lt-ltb, ltb-true, eq-eqb}
 use Rattle.cw_tree.specs.declared.node.Node.{Node}
 use Rattle.cw_tree.specs.Nodes.{parent_of, is_strand, is_fork, is_pending, all_nodes}
 use Rattle.cw_tree.specs.Walks.{has}
@@ -9,7 +9,7 @@ use Rattle.cw_tree.specs.Series.{children, has_later}
 use Rattle.cw_tree.specs.Shape.{IsTree}
 use Rattle.cw_tree.proofs.Lists.{any_from}
 use Rattle.cw_tree.proofs.Members.{below_in, filter_in}
-use Rattle.cw_tree.proofs.NodeKinds.{pending_block, fork_no_strand, fork_no_block}
+use Rattle.cw_tree.proofs.NodeKinds.{fork_no_strand}
 use Rattle.cw_tree.proofs.Walks.Kin.{fork_child}
 use Rattle.cw_trace.specs.Columns.{used}
 use Rattle.cw_trace.specs.Stands.{fork_column}
@@ -17,6 +17,7 @@ use Rattle.cw_trace.specs.Running.{IsOrdered}
 use Rattle.cw_open.specs.Machine.{OpenMachine, has_finished}
 use Rattle.cw_open.specs.Open.{is_open, AreNested}
 use Rattle.cw_open.proofs.Open.Standing.{pending_open}
+use Rattle.cw_open.proofs.Open.Kinds.{unjoined_open, open_unjoined, open_kinds}
 use Rattle.cw_hands.specs.Shared.{SharedMoment, has_columns, is_owed, is_open_yet}
 use Rattle.cw_hands.specs.Laws.{OrderYet, OrderFollows}
 
@@ -45,38 +46,13 @@ module _ (s : SharedMoment) where
   pub wide_low : (f : ℕ) → has_columns s f ≡ true → fork_column s.machine.tree f + 1 < used s.columns
   wide_low f e = ltb-true (fork_column t f + 1) (used s.columns) (and_parts (is_fork t f) (nat_lt (fork_column t f + 1) (used s.columns)) e).1
 
-  pub open_fork : (f : ℕ) → is_fork t f ≡ true → has m.joined f ≡ false → is_open m f ≡ true
-  open_fork f fork e =
-      or_left (is_strand t f && not (has_finished m f) || is_fork t f && not (has m.joined f)) (is_pending t f)
-      (or_right (is_strand t f && not (has_finished m f)) (is_fork t f && not (has m.joined f)) (and_from (is_fork t f) (not (has m.joined f)) fork (not_from_false (has m.joined f) e)))
-
-  pub open_unjoined : (f : ℕ) → is_fork s.machine.tree f ≡ true → is_open s.machine f ≡ true → has s.machine.joined f ≡ false
-  open_unjoined f fork e =
-      elim (or_cases (is_strand t f && not (has_finished m f) || is_fork t f && not (has m.joined f)) (is_pending t f) e) [
-        | inr z ↦ absurd (cc (pending_block t f z, fork_no_block t f fork))
-        | inl z ↦ elim (or_cases (is_strand t f && not (has_finished m f)) (is_fork t f && not (has m.joined f)) z) [
-          | inl y ↦ absurd (cc ((and_parts (is_strand t f) (not (has_finished m f)) y).0, fork_no_strand t f fork))
-          | inr y ↦ not-true (has m.joined f) (and_parts (is_fork t f) (not (has m.joined f)) y).1
-        ]
-      ]
-
-  open_kinds : (n : ℕ) → is_open m n ≡ true → (is_strand t n ≡ true) ⊎ ((is_fork t n ≡ true) ⊎ (is_pending t n ≡ true))
-  open_kinds n e =
-      elim (or_cases (is_strand t n && not (has_finished m n) || is_fork t n && not (has m.joined n)) (is_pending t n) e) [
-        | inr z ↦ inr (inr z)
-        | inl z ↦ elim (or_cases (is_strand t n && not (has_finished m n)) (is_fork t n && not (has m.joined n)) z) [
-          | inl y ↦ inl (and_parts (is_strand t n) (not (has_finished m n)) y).0
-          | inr y ↦ inr (inl (and_parts (is_fork t n) (not (has m.joined n)) y).0)
-        ]
-      ]
-
   -- what is open yet is open in the machine, but for forks whose merge is owed
   pub yet : (n : ℕ) → is_open_yet s n ≡ true → (is_open s.machine n ≡ true) ⊎ (is_owed s n ≡ true)
   yet n e = elim (cases_Bool (has_columns s n)) [
     | inr off ↦ inl (sym (at_other n off) ∙ e)
     | inl on ↦ elim (cases_Bool (has m.joined n)) [
       | inl z ↦ inr (and_from (has_columns s n && has m.joined n) (not (has s.joins (fork_column t n))) (and_from (has_columns s n) (has m.joined n) on z) (sym (at_wide n on) ∙ e))
-      | inr z ↦ inl (open_fork n (wide_fork n on) z)
+      | inr z ↦ inl (unjoined_open m n (wide_fork n on) z)
     ]
   ]
 
@@ -91,7 +67,7 @@ module _ (s : SharedMoment) where
     still : (n : ℕ) → is_open m n ≡ true → is_open_yet s n ≡ true
     still n e = elim (cases_Bool (has_columns s n)) [
       | inr off ↦ at_other n off ∙ e
-      | inl on ↦ at_wide n on ∙ not_from_false (has s.joins (fork_column t n)) (false_from_ne_true (has s.joins (fork_column t n)) (λ z. absurd (cc (o.joined n on z, open_unjoined n (wide_fork n on) e))))
+      | inl on ↦ at_wide n on ∙ not_from_false (has s.joins (fork_column t n)) (false_from_ne_true (has s.joins (fork_column t n)) (λ z. absurd (cc (o.joined n on z, open_unjoined m n (wide_fork n on) e))))
     ]
 
     -- of two children of a strand or block the earlier is open no more
@@ -125,7 +101,7 @@ module _ (s : SharedMoment) where
       pending = λ b e. still b (pending_open m tree w b e);
       forks = λ f fork low e. at_wide f (wide_from f fork low) ∙ not_from_false (has s.joins (fork_column t f)) e;
       joined = λ f fork low e. not-true (has s.joins (fork_column t f)) (sym (at_wide f (wide_from f fork low)) ∙ e);
-      kinds = λ n h e. elim (yet n e) [ inl z ↦ open_kinds n z | inr z ↦ inr (inl (owed_fork n z)) ];
+      kinds = λ n h e. elim (yet n e) [ inl z ↦ open_kinds m n z | inr z ↦ inr (inl (owed_fork n z)) ];
       outer = λ n some h e. elim (yet n e) [ inl z ↦ still (parent_of t n) (w.outer n some h z) | inr z ↦ still (parent_of t n) (o.owed n z).0 ];
       one = one_open;
       left_first = λ l r n some less h same fork unsplit hn over ne.

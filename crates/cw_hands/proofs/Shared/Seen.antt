@@ -19,7 +19,7 @@ use Rattle.cw_tree.proofs.Lists.{all_in}
 use Rattle.cw_tree.proofs.InOrder.DepthFirst.{child_in}
 use Rattle.cw_tree.proofs.Walks.Kin.{fork_child}
 use Rattle.cw_tree.proofs.Walks.There.{pending_there}
-use Rattle.cw_tree.proofs.NodeKinds.{fork_no_strand, pending_block}
+use Rattle.cw_tree.proofs.NodeKinds.{fork_no_strand, pending_block, block_stamped}
 use Rattle.cw_trace.specs.Columns.{ColumnTable, used, owner, forked, split_at, merged, is_trace, before_split, left_column_of, back_to, around_fork, begun_word, closed_word}
 use Rattle.cw_trace.specs.Stands.{column, fork_column, is_apart}
 use Rattle.cw_trace.specs.Keeps.{Keeps}
@@ -35,13 +35,13 @@ use Rattle.cw_open.specs.Steps as step
 use Rattle.cw_open.specs.Open.{is_open}
 use Rattle.cw_open.specs.Runs.{Rules, Allowed}
 use Rattle.cw_open.specs.LeftFirst.{makers}
-use Rattle.cw_open.proofs.Laws.Named.{block_stamp}
 use Rattle.cw_open.proofs.Open.Standing.{runs}
 use Rattle.cw_open.proofs.Open.Trees.{IsWell}
 use Rattle.cw_open.proofs.Open.TreeSteps.{free_runs, rolls_runs, place_pending}
+use Rattle.cw_open.proofs.Open.Kinds.{finished_shut, open_unjoined}
 use Rattle.cw_hands.specs.Shared.{SharedMoment, has_columns, is_split, is_whole, is_owed, is_open_yet, moment_of, is_ready, place_at, has_room, after_shared, IsLaterStep}
-use Rattle.cw_hands.proofs.Shared.Order.{at_no_fork, wide_fork, wide_low, wide_from, open_unjoined}
-use Rattle.cw_hands.proofs.Shared.Going.{may_go_on, finished_shut}
+use Rattle.cw_hands.proofs.Shared.Order.{at_no_fork, wide_fork, wide_low, wide_from}
+use Rattle.cw_hands.proofs.Shared.Going.{may_go_on}
 use Rattle.cw_hands.proofs.Shared.Opening.{leaf_opens, close_shuts, finish_shuts, inline_shuts, join_leaves, whole_shuts, merge_shuts, split_leaves}
 use Rattle.cw_hands.proofs.Shared.Forked.{fork_opens_so, same_wide}
 
@@ -108,7 +108,7 @@ module _ (s : SharedMoment) (w : IsWell s.machine) (h : StandsInOrder s.columns 
       let p = place t x in
       let pending = place_pending m w x running within in
       step_as (moment_of s) (Some p) s.columns (closed_word s.words (gap_at s.columns t p) (stamp_of t p)) (closed t p state end) s.cuts s.joins _ _ (close_shuts s w.sound.tree.rooted p end state pending done)
-      (tier.close p end state (goes x running ready) pending done (λ b e same. w.sound.stamps.distinct b p (pending_there t b e) (pending_there t p pending) (block_stamp t w.sound.stamps b (pending_block t b e)) same))
+      (tier.close p end state (goes x running ready) pending done (λ b e same. w.sound.stamps.distinct b p (pending_there t b e) (pending_there t p pending) (block_stamped t w.sound.stamps b (pending_block t b e)) same))
 
   -- a fork, with columns where there are two left
   fork_step : (x stamp : ℕ) → is_running m x ≡ true → is_ready s x ≡ true → (z : Bool) → has_room s ≡ z
@@ -214,7 +214,7 @@ module _ (s : SharedMoment) (w : IsWell s.machine) (h : StandsInOrder s.columns 
         wide = y.0;
         low = omega (arith, low);
         apart = names f true y.1 y.0 (not-true (has s.joins col) x.1);
-        done = strands_done f fork (λ x some there up. false_from_ne_true (is_open m x) (λ o. absurd (cc (joined, open_unjoined s f fork (sym (ap (is_open m) up) ∙ w.nested.outer x some there o)))));
+        done = strands_done f fork (λ x some there up. false_from_ne_true (is_open m x) (λ o. absurd (cc (joined, open_unjoined m f fork (sym (ap (is_open m) up) ∙ w.nested.outer x some there o)))));
       }
 
   pub merge_step : (f : ℕ) → (is_split s f && is_owed s f) ≡ true → TierStep (moment_of s) None (moment_of (record s { columns = merged (fork_column t f) s.columns; joins = fork_column t f ∷ s.joins }))

@@ -21,7 +21,7 @@ use Rattle.cw_open.specs.Machine.{OpenMachine, has_finished, waits, is_running, 
 use Rattle.cw_open.specs.Steps.{finishes, after_open_step, after_all}
 use Rattle.cw_open.specs.Runs.{Rules, Allowed, IsRun, left_died, at_any_time}
 use Rattle.cw_open.specs.Open.{is_open}
-use Rattle.cw_open.specs.Hands.{join_steps, HaveCome, WaitsForAlone, MayJoin, StrandsMayJoin, RunsAgain, ForkersRunAgain, IsLeftAlone, JoinsLeaveAlone}
+use Rattle.cw_open.specs.Hands.{join_steps, HaveCome, WaitsForAlone, MayFinishAndJoin, StrandsMayJoin, RunsAgain, ForkersRunAgain, IsLeftAlone, JoinsLeaveAlone}
 use Rattle.cw_open.proofs.Open.Trees.{IsWell}
 use Rattle.cw_open.proofs.Open.Standing.{StandsAt, stands_at, open_over, open_last, open_block, pending_open, runs}
 use Rattle.cw_open.proofs.Laws.Named.{strand_is}
@@ -77,7 +77,7 @@ module _ (rules : Rules) (m : OpenMachine) (w : IsWell m) (f l r : ℕ) (c : Hav
   right_runs : (dl : Bool) → is_running (one dl) r ≡ true
   right_runs dl = rw (ne_eqb l r two.differ) (and_parts (is_running m r) (not (in_block m r)) c.right).0
 
-  pub may_join : MayJoin rules m f l r
+  pub may_join : MayFinishAndJoin rules m f l r
   may_join = record {
     as_dying = either (is_dying m l) (is_dying m r)
         (and_from (is_running m l && not (in_block m l)) (if is_dying m l then is_dying m l else (not (is_dying m l) || left_died m l)) c.left (as_dying (is_dying m l) (left_died m l)))

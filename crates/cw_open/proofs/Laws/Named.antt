@@ -1,14 +1,12 @@
 -- Accesses by their stamps, and which nodes are live, as the tree changes.
 use Rattle.std.proofs.Common.{◌≡◌, inl, inr, ℕ, ◌<◌, List, [], ◌∷◌, ◌++◌, length, refl, ap, sym, ◌∙◌, arith, Bool, true, false, cond, Option, Some, None, nat_eq}
-use Rattle.std.specs.Prelude.{◌&&◌, ◌||◌, not, unwrap_or}
+use Rattle.std.specs.Prelude.{◌&&◌, not, unwrap_or}
 use Rattle.std.specs.List.{find, list_all}
-use Rattle.std.proofs.lemmas.Bool.{and_parts, and_from, and_right, or_from, not-true, not_from_false, false_from_ne_true, cases_eq, eqb-true, ltb-true}
+use Rattle.std.proofs.lemmas.Bool.{and_parts, and_from, and_right, not-true, not_from_false, false_from_ne_true, cases_eq, eqb-true}
 use Rattle.cw_tree.specs.declared.node.Node.{Node}
-use Rattle.cw_tree.specs.declared.node.Kind.{Kind}
-use Rattle.cw_tree.specs.declared.node.Kind.TheVariants.{Read, Write, Strand, Fork, Block, Out, Tried}
 use Rattle.cw_tree.specs.declared.node.BlockState.{BlockState}
 use Rattle.cw_tree.specs.declared.node.BlockState.TheVariants.{Pending, Committed, Aborted}
-use Rattle.cw_tree.specs.Nodes.{is_strand_kind, is_tried_kind, is_block_kind, is_pending_state, is_aborted_state, touches_kind, stamp_of, is_strand, is_tried, is_block, is_pending, is_aborted, touches, all_nodes, closed}
+use Rattle.cw_tree.specs.Nodes.{is_block_kind, is_pending_state, is_aborted_state, touches_kind, stamp_of, is_strand, is_block, is_pending, is_aborted, touches, all_nodes, closed}
 use Rattle.cw_tree.specs.Walks.{IsRooted, path, above, is_ancestor, is_above}
 use Rattle.cw_tree.specs.Series.{strand_of}
 use Rattle.cw_tree.specs.Shape.{AreStamps}
@@ -117,20 +115,3 @@ module _ (t : List Node) (r : IsRooted t) (p : ℕ) (state : BlockState) (end : 
             ∙ and_right (is_block t p) (is_aborted_state state) (kept (ap (λ c. is_above t c n) (sym q) ∙ up))
         | inr ne ↦ node_closed_other t p state end (λ y. is_block_kind y.kind && is_aborted_state y.state) b ne ∙ live_tells t n b l up
       ])
-
-block_kind_no : (k : Kind) → is_block_kind k ≡ true → (is_strand_kind k ≡ false) × (is_tried_kind k ≡ false)
-block_kind_no Block e = (refl, refl)
-block_kind_no Strand e = absurd (cc e)
-block_kind_no Fork e = absurd (cc e)
-block_kind_no (Read c v) e = absurd (cc e)
-block_kind_no (Write c v) e = absurd (cc e)
-block_kind_no (Out v) e = absurd (cc e)
-block_kind_no (Tried c) e = absurd (cc e)
-block_kind_no _ e = absurd (cc e)
-
--- a block has a stamp
-pub block_stamp : (t : List Node) → AreStamps t → (n : ℕ) → is_block t n ≡ true → 0 < stamp_of t n
-block_stamp t s n e =
-    let no_strand = node_tells false t (λ x. is_block_kind x.kind) (λ x. is_strand_kind x.kind) (λ x f. (block_kind_no x.kind f).0) n e in
-    let no_tried = node_tells false t (λ x. is_block_kind x.kind) (λ x. is_tried_kind x.kind) (λ x f. (block_kind_no x.kind f).1) n e in
-    ltb-true 0 (stamp_of t n) (s.there n (node_there (λ x. is_block_kind x.kind) t n e) ∙ not_from_false (is_strand t n || is_tried t n) (or_from (is_strand t n) (is_tried t n) no_strand no_tried))

@@ -1,5 +1,5 @@
 -- An access by a strand that stands in a block of its own conflicts with none, where the cell has an access beneath that block.
-use Rattle.std.proofs.Common.{◌≡◌, ℕ, ◌<◌, ◌≤◌, List, [], ◌∷◌, length, map, refl, ap, sym, ◌∙◌, subst, arith, true, false, inl, inr, nat_eq}
+use Rattle.std.proofs.Common.{◌≡◌, ℕ, ◌<◌, ◌≤◌, List, [], ◌∷◌, length, map, refl, sym, ◌∙◌, subst, arith, true, false, inl, inr, nat_eq}
 use Rattle.std.proofs.lemmas.Bool.{and_parts, or_from, eqb-true, cases_lt}
 use Rattle.std.proofs.lemmas.List.Elements.{All-tail}
 use Rattle.cw_tree.specs.declared.node.Node.{Node}
@@ -16,6 +16,7 @@ use Rattle.cw_tree.proofs.Walks.Kin.{ancestor_linear}
 use Rattle.cw_tree.proofs.ChainLaws.Nearest.{passes_free}
 use Rattle.cw_tree.proofs.ChainLaws.Chains.{first_passes}
 use Rattle.cw_tree.proofs.ChainLaws.Stamps.{named_there}
+use Rattle.cw_tree.proofs.Members.{map_in}
 use Rattle.cw_open.specs.Machine.{live, is_running, in_block}
 use Rattle.cw_open.specs.Runs.{meets}
 use Rattle.cw_open.specs.Laws.{OwnAccessesAreFree}
@@ -29,11 +30,6 @@ has_in us s e =
     let z = any_in (λ n. nat_eq n s) us e in
     let P : ℕ → Type 0 = λ n. In n us in
     subst P (eqb-true z.0 s z.2) z.1
-
-map_in : (f : ℕ → ℕ) (v : ℕ) (xs : List ℕ) → In v xs → In (f v) (map f xs)
-map_in f v [] i = i
-map_in f v (x ∷ xs) (inl e) = inl (ap f e)
-map_in f v (x ∷ xs) (inr i) = inr (map_in f v xs i)
 
 newest_single : (us : List ℕ) (v w : ℕ) (ns : List ℕ) → newest us ≡ v ∷ w ∷ ns → ⊥
 newest_single [] v w ns e = absurd (cc e)

@@ -24,13 +24,12 @@ use Rattle.cw_tree.proofs.NextNodes.Kept.{find_path_kept}
 use Rattle.cw_tree.proofs.NextNodes.Growing.{length_more, node_grown, node_new, number_grown, number_new, ancestor_grown, is_above_grown, above_new, ancestor_new, keeps_grown, rooted_more}
 use Rattle.cw_tree.proofs.NextNodes.Before.{new_before_at}
 use Rattle.cw_tree.proofs.NextNodes.Pending.{end_of_place}
-use Rattle.cw_tree.proofs.NodeKinds.{pending_block}
+use Rattle.cw_tree.proofs.NodeKinds.{pending_block, block_stamped}
 use Rattle.cw_open.specs.Machine.{OpenMachine, is_running}
 use Rattle.cw_open.specs.Steps.{Met, refuses, refusal}
 use Rattle.cw_open.specs.Runs.{IsMet}
 use Rattle.cw_open.specs.Times.{times_after, IsMetInTime, ClosedLater}
 use Rattle.cw_open.specs.Refused.{IsNewest}
-use Rattle.cw_open.proofs.Laws.Named.{block_stamp}
 use Rattle.cw_open.proofs.Open.Growth.{IsGrowth, growth_leaf}
 use Rattle.cw_open.proofs.Refused.Attempted.{outermost_agrees}
 use Rattle.cw_open.proofs.Open.Trees.{IsWell, stands_well}
@@ -152,7 +151,7 @@ module _ (m : OpenMachine) (w : IsWell m) (s : ℕ) (running : is_running m s �
         let z = outermost_in (may_fall t a) (path t p) n e in
         let pending = (and_parts (is_pending t n) (not (is_above t n a)) z.1).0 in
         let low = node_there (λ y. is_block_kind y.kind && is_pending_state y.state) t n pending in
-        let some = block_stamp t w.sound.stamps n (pending_block t n pending) in
+        let some = block_stamped t w.sound.stamps n (pending_block t n pending) in
         ap (λ k. cond k None (Some (stamp_of t n))) (ne_eqb (stamp_of t n) 0 (λ q. omega arith))
         ∙ ap Some (sym (number_grown t (x ∷ []) (λ y. y.stamp) n low))
 
@@ -168,7 +167,7 @@ module _ (m : OpenMachine) (w : IsWell m) (s : ℕ) (running : is_running m s �
   same_block : in_time.0 ≡ b
   same_block =
       let (n, is, stamped, z) = in_time in
-      w.sound.stamps.distinct n b (node_there (λ y. is_block_kind y.kind) t n is) low_b (block_stamp t w.sound.stamps n is) (stamped ∙ sym told.block.2)
+      w.sound.stamps.distinct n b (node_there (λ y. is_block_kind y.kind) t n is) low_b (block_stamped t w.sound.stamps n is) (stamped ∙ sym told.block.2)
 
   in_time_b : (is_pending t b ≡ true) ⊎ ClosedLater times t p b
   in_time_b = let P : ℕ → Type 0 = λ n. (is_pending t n ≡ true) ⊎ ClosedLater times t p n in subst P same_block in_time.3

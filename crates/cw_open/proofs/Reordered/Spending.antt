@@ -17,7 +17,7 @@ use Rattle.cw_tree.specs.Series.{strand_of, last_of, place, parallel, is_before}
 use Rattle.cw_tree.specs.Shape.{AreStamps}
 use Rattle.cw_tree.specs.Accesses.{is_live}
 use Rattle.cw_tree.specs.ForkCounts.{one_if}
-use Rattle.cw_tree.specs.Refusals.{victim_of, refused, is_refused_in, tells, may_be_last, Spent}
+use Rattle.cw_tree.specs.Refusals.{victim_of, refused_node, is_refused_in, tells, may_be_last, Spent}
 use Rattle.cw_tree.specs.InOrder.{renamed, in_order, conflict_in_order, conflicts_in_order, asker_of}
 use Rattle.cw_tree.proofs.Lists.{In}
 use Rattle.cw_tree.proofs.Members.{in_filter, in_below, below_in}
@@ -31,7 +31,7 @@ use Rattle.cw_tree.proofs.InOrder.Renumbered.{in_order_numbered}
 use Rattle.cw_tree.proofs.InOrder.Renaming.{renamed_apart, ancestor_stays}
 use Rattle.cw_tree.proofs.InOrder.Sound.{sound_stays}
 use Rattle.cw_tree.proofs.Sorts.{any_by_key, all_by_key}
-use Rattle.cw_tree.proofs.NodeKinds.{node_tells, aborted_block}
+use Rattle.cw_tree.proofs.NodeKinds.{node_tells, aborted_block, block_stamped}
 use Rattle.cw_tree.proofs.LastBelow.{last_some, last_is, none_is}
 use Rattle.cw_open.specs.Machine.{OpenMachine, has_finished}
 use Rattle.cw_open.specs.Open.{is_open}
@@ -39,7 +39,7 @@ use Rattle.cw_open.specs.Runs.{IsReachedBy, at_any_time}
 use Rattle.cw_open.specs.Spent.{StandsStill, HasSpent, SpentAreInOrder}
 use Rattle.cw_open.proofs.Open.Standing.{stands_at, open_over, open_block, pending_open}
 use Rattle.cw_open.proofs.Open.Trees.{IsWell}
-use Rattle.cw_open.proofs.Laws.Named.{strand_is, block_stamp, live_from}
+use Rattle.cw_open.proofs.Laws.Named.{strand_is, live_from}
 use Rattle.cw_open.proofs.Refused.Victims.{IsTold, IsToldState, told_states}
 use Rattle.cw_open.proofs.Refused.Asking.{asking_states}
 use Rattle.cw_open.proofs.Refused.Fell.{One, any_one}
@@ -78,7 +78,7 @@ block_found t s b block =
     find_one (λ n. is_block t n && nat_eq (stamp_of t n) (stamp_of t b)) b (all_nodes t) (below_in b (length t) h) (and_from (is_block t b) (nat_eq (stamp_of t b) (stamp_of t b)) block (eq-eqb (stamp_of t b) (stamp_of t b) refl))
     (λ n i e.
     let z = and_parts (is_block t n) (nat_eq (stamp_of t n) (stamp_of t b)) e in
-    s.distinct n b (in_below n (length t) i) h (block_stamp t s n z.0) (eqb-true (stamp_of t n) (stamp_of t b) z.1))
+    s.distinct n b (in_below n (length t) i) h (block_stamped t s n z.0) (eqb-true (stamp_of t n) (stamp_of t b) z.1))
 
 -- a pending block was not rolled back
 not_pending : (t : List Node) (n : ℕ) → is_aborted t n ≡ true → is_pending t n ≡ true → ⊥
@@ -288,7 +288,7 @@ module _ (asked : List Node → List ℕ → Option ℤ → List ℕ) (first : L
   -- what a conflict says in depth-first order, where what it refused stands still
   record IsStill (c : Conflict) : Type 0 where
     pub last : may_be_last new (conflict_in_order t c) ≡ true
-    pub tells : (x : ℕ) → strand_of t (refused t c) ≡ x → is_refused_in new (f x) (f c.asker) (victim_of c) ≡ true
+    pub tells : (x : ℕ) → strand_of t (refused_node t c) ≡ x → is_refused_in new (f x) (f c.asker) (victim_of c) ≡ true
 
   still : (c : Conflict) → IsTold t c → is_tried t c.asker ≡ true → StandsStill m c (victim_of c) → IsStill c
   still c told_c tried e = elim told_c.named [
@@ -297,8 +297,8 @@ module _ (asked : List Node → List ℕ → Option ℤ → List ℕ) (first : L
         let no = none_of c none in
         let P : Option ℕ → Type 0 = λ o. StandsStill m c o in
         let z = subst P no e in
-        let old : refused t c ≡ v = ap (λ o. option_map_or (λ s. unwrap_or (block_with_stamp t s) 0) o v) no in
-        let moved : refused new (conflict_in_order t c) ≡ f v = ap (λ o. option_map_or (λ s. unwrap_or (block_with_stamp new s) 0) o (f v)) no in
+        let old : refused_node t c ≡ v = ap (λ o. option_map_or (λ s. unwrap_or (block_with_stamp t s) 0) o v) no in
+        let moved : refused_node new (conflict_in_order t c) ≡ f v = ap (λ o. option_map_or (λ s. unwrap_or (block_with_stamp new s) 0) o (f v)) no in
         let low_v = told_c.asker in
         record {
           last =
@@ -314,14 +314,14 @@ module _ (asked : List Node → List ℕ → Option ℤ → List ℕ) (first : L
         (let y = is.0 in
         let z = and_parts (is_block t y) (is_above t y c.asker) is.1 in
         let low_y = node_there (λ n. is_block_kind n.kind) t y z.0 in
-        let a = some_of c (stamp_of t y) (sym is.2) (block_stamp t well.sound.stamps y z.0) in
+        let a = some_of c (stamp_of t y) (sym is.2) (block_stamped t well.sound.stamps y z.0) in
         let found = block_found t well.sound.stamps y z.0 in
         let stamps_new = (sound_stays t w well.sound).stamps in
         let found_new : block_with_stamp new (stamp_of t y) ≡ Some (f y) = ap (block_with_stamp new) (sym (stamp_kept t w y low_y)) ∙ block_found new stamps_new (f y) (block_kept t w y low_y ∙ z.0) in
-        let old : refused t c ≡ y = ap (λ o. option_map_or (λ s. unwrap_or (block_with_stamp t s) 0) o c.asker) a ∙ ap (λ o. unwrap_or o 0) found in
-        let moved : refused new (conflict_in_order t c) ≡ f y = ap (λ o. option_map_or (λ s. unwrap_or (block_with_stamp new s) 0) o (f c.asker)) a ∙ ap (λ o. unwrap_or o 0) found_new in
+        let old : refused_node t c ≡ y = ap (λ o. option_map_or (λ s. unwrap_or (block_with_stamp t s) 0) o c.asker) a ∙ ap (λ o. unwrap_or o 0) found in
+        let moved : refused_node new (conflict_in_order t c) ≡ f y = ap (λ o. option_map_or (λ s. unwrap_or (block_with_stamp new s) 0) o (f c.asker)) a ∙ ap (λ o. unwrap_or o 0) found_new in
         let P : Option ℕ → Type 0 = λ o. StandsStill m c o in
-        let waits : is_pending t (refused t c) ≡ true = subst P a e in
+        let waits : is_pending t (refused_node t c) ≡ true = subst P a e in
         let pending : is_pending t y ≡ true = ap (is_pending t) (sym old) ∙ waits in
         record {
           last =
@@ -354,16 +354,16 @@ module _ (asked : List Node → List ℕ → Option ℤ → List ℕ) (first : L
         (all_with (λ c. is_tried t c.asker ≡ true) (λ c. c.attempt ≡ budget → StandsStill m c (victim_of c)) (λ c. (is_tried t c.asker ≡ true) × (c.attempt ≡ budget → StandsStill m c (victim_of c))) cs tried_all h.still (λ c a b. (a, b)))
         (λ c a b e. still c a b.0 (b.1 e))
 
-    one : One Facts (λ c. nat_eq c.attempt budget && nat_eq (strand_of t (refused t c)) x) cs
-    one = any_one Facts (λ c. nat_eq c.attempt budget && nat_eq (strand_of t (refused t c)) x) cs facts h.told
+    one : One Facts (λ c. nat_eq c.attempt budget && nat_eq (strand_of t (refused_node t c)) x) cs
+    one = any_one Facts (λ c. nat_eq c.attempt budget && nat_eq (strand_of t (refused_node t c)) x) cs facts h.told
 
-    parts : (one.one.attempt ≡ budget) × (strand_of t (refused t one.one) ≡ x)
+    parts : (one.one.attempt ≡ budget) × (strand_of t (refused_node t one.one) ≡ x)
     parts =
-        let z = and_parts (nat_eq one.one.attempt budget) (nat_eq (strand_of t (refused t one.one)) x) one.passes in
-        (eqb-true one.one.attempt budget z.0, eqb-true (strand_of t (refused t one.one)) x z.1)
+        let z = and_parts (nat_eq one.one.attempt budget) (nat_eq (strand_of t (refused_node t one.one)) x) one.passes in
+        (eqb-true one.one.attempt budget z.0, eqb-true (strand_of t (refused_node t one.one)) x z.1)
 
     is_strand_x : is_strand t x ≡ true
-    is_strand_x = let P : ℕ → Type 0 = λ y. is_strand t y ≡ true in subst P parts.1 (strand_is t w.root (refused t one.one))
+    is_strand_x = let P : ℕ → Type 0 = λ y. is_strand t y ≡ true in subst P parts.1 (strand_is t w.root (refused_node t one.one))
 
     some_tell : list_any (tells new budget (f x)) (conflicts_in_order t cs) ≡ true
     some_tell =

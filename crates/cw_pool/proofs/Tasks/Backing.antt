@@ -23,7 +23,7 @@ use Rattle.cw_pool.specs.declared.task.Base.{Base}
 use Rattle.cw_pool.specs.declared.task.Base.TheVariants as base
 use Rattle.cw_pool.specs.Ends.{MayEnd}
 use Rattle.cw_pool.specs.Tasks as waiting
-use Rattle.cw_pool.specs.Tasks.{Start, IsFree, IsHalf, IsReached, IsTaken, Fits, StandsGoing, StandsWaiting, AreBelow, IsRunning, beside, opened, told_by}
+use Rattle.cw_pool.specs.Tasks.{Start, IsFree, IsHalf, IsReached, IsTaken, Fits, StandsGoing, StandsWaiting, AreWaitingBelow, IsRunning, beside, opened, told_by}
 use Rattle.cw_pool.proofs.Tasks.Stopping.{one_some}
 use Rattle.cw_pool.proofs.Tasks.Finishing.{IsOutside, Finished, at_bottom, goes_outside, outside_there}
 use Rattle.cw_pool.proofs.Tasks.Going.{top_first, top_last}
@@ -97,9 +97,9 @@ module _ {T J : Type 0} (job : Job) (of : T → Token) where
     pub trail : t ≡ in_left outer behind at (Some column) stamp
     pub forks : os ≡ opened (Beside n) a outer ∷ others
     pub is_half : IsHalf job of half (beside (strands_of_job job) a outer behind at column n)
-    pub under : AreBelow job of lowest a outer others rest
+    pub under : AreWaitingBelow job of lowest a outer others rest
 
-  left_top : {lowest a : Start} {t : Trail StrandState} {os : List Open} {n : ℕ} {half : Note (Memo T)} {rest : List (Below T J)} → IsOutside t → AreBelow job of lowest a t os (below.Left n half ∷ rest)
+  left_top : {lowest a : Start} {t : Trail StrandState} {os : List Open} {n : ℕ} {half : Note (Memo T)} {rest : List (Below T J)} → IsOutside t → AreWaitingBelow job of lowest a t os (below.Left n half ∷ rest)
       → LeftTop lowest a t os n half rest
   left_top o (waiting.block h) = absurd o
   left_top o (waiting.left {t = u} {os = os} {cs = cs} {b = b} {column = column} {stamp = stamp} e h) =
@@ -151,7 +151,7 @@ module _ {T J : Type 0} (job : Job) (of : T → Token) where
         course = nothing;
         reached = u.reached;
         written = fits_goes y p opens nothing u.fits;
-        below = subst (λ (os : List Open). AreBelow job of r.lowest p opens os (reverse (bs ++ below.Taken tok body ∷ []))) (sym u.none)
+        below = subst (λ (os : List Open). AreWaitingBelow job of r.lowest p opens os (reverse (bs ++ below.Taken tok body ∷ []))) (sym u.none)
             (top_last job of bs (below.Taken tok body)
             (waiting.taken (left_taken job of tok x body r.start r.trail i.outer r.course i.behind i.at i.column i.stamp i.trail r.reached r.written r.stands over over_now)
             (ap (λ (w : Token). w.forks) over_now ∙ i.forks) refl i.under));

@@ -5,12 +5,12 @@ use Rattle.std.specs.List.{All}
 use Rattle.std.proofs.lemmas.List.Elements.{All-map}
 use Rattle.cw_strand.specs.declared.want.Want.{Want}
 use Rattle.cw_strand.specs.Strands.{is_over}
-use Rattle.cw_job.specs.Jobs.{Job, bare as bare_job}
+use Rattle.cw_job.specs.Jobs.{Job, bare_job}
 use Rattle.cw_job.specs.Room.Strands.{StrandState, strands_of_job}
 use Rattle.cw_job.proofs.Room.Wants.{same_want}
 use Rattle.cw_tree.specs.declared.closed.Halt.TheVariants.{Memory}
 use Rattle.cw_log.specs.declared.token.Token.{Token}
-use Rattle.cw_log.specs.Tokens.{MayHalt, halted}
+use Rattle.cw_log.specs.Tokens.{halted}
 use Rattle.cw_course.specs.Courses.{Course}
 use Rattle.cw_course.specs.Trails.{Trail}
 use Rattle.cw_body.specs.declared.stage.Stage.TheVariants as stage
@@ -21,7 +21,7 @@ use Rattle.cw_pool.specs.declared.task.Mode.TheVariants as mode
 use Rattle.cw_pool.specs.declared.task.Below.{Below}
 use Rattle.cw_pool.specs.declared.task.Base.{Base}
 use Rattle.cw_pool.specs.Ends.{IsBehind, MayJoin}
-use Rattle.cw_pool.specs.Tasks.{Start, IsRun, IsReached, Fits, StandsGoing, StandsDying, StandsStopped, IsBase, AreBelow, IsRunning, goes_in, seen_in}
+use Rattle.cw_pool.specs.Tasks.{Start, IsRun, IsReached, Fits, StandsGoing, StandsDying, StandsStopped, IsBase, AreWaitingBelow, IsRunning, goes_in, seen_in}
 use Rattle.cw_pool.proofs.Tasks.Stopping.{wants_memory}
 
 -- ## Bodies
@@ -50,9 +50,9 @@ all_later ps qs e = subst (λ us. All (λ (p : PendingBegin). 0 < p.forks) us) (
 module _ (job : Job) where
   -- the body of the right strand becomes that of the strand that forked
   pub body_joined : (body left next : InBlocks) (now gone : StrandState) (ps : List PendingBegin) → body ≡ goes_in job now (map one_fork_more ps) → left.state ≡ gone
-      → next ≡ bodies.joined (strands_of_job job) body left → next ≡ goes_in job ((strands_of_job job).joined now gone) ps
+      → next ≡ bodies.joined_body (strands_of_job job) body left → next ≡ goes_in job ((strands_of_job job).joined now gone) ps
   body_joined body left next now gone ps e l f =
-      f ∙ ap (λ (w : InBlocks). bodies.joined (strands_of_job job) w left) e
+      f ∙ ap (λ (w : InBlocks). bodies.joined_body (strands_of_job job) w left) e
       ∙ ap (λ (q : StrandState). goes_in job ((strands_of_job job).joined now q) (map one_fork_less (map one_fork_more ps))) l
       ∙ ap (λ qs. goes_in job ((strands_of_job job).joined now gone) qs) (less_more ps)
 
@@ -68,14 +68,14 @@ module _ (job : Job) where
 
   -- once its body is made of those of both
   abbrev pub StandsBehind : Mode → Token → (right left : InBlocks) → Start → Trail StrandState → Course → Type 0
-  StandsBehind mode.Goes x right left a t cs = MayJoin job right × StandsGoing job x (bodies.joined (strands_of_job job) right left) a t cs
+  StandsBehind mode.Goes x right left a t cs = MayJoin job right × StandsGoing job x (bodies.joined_body (strands_of_job job) right left) a t cs
   StandsBehind (mode.Dies to) x right left a t cs = (right.stage ≡ stage.Lost → ⊥) × StandsDying job to x (gave_up right) a t cs
   StandsBehind mode.Stopped x right left a t cs = StandsStopped job x a t cs
   StandsBehind mode.Waits x right left a t cs = ⊥
 
 module _ {T J : Type 0} (job : Job) (of : T → Token) where
   pub behind_whole : (how : Mode) (x : Token) (right left : InBlocks) (bs : List (Below T J)) (b : Base T J) (run : IsRun job) (lowest : Start) (based : IsBase job of b how lowest) (a : Start)
-      (t : Trail StrandState) (cs : Course) → IsReached (strands_of_job job) a.state → Fits x a t cs → AreBelow job of lowest a t x.forks (reverse bs) → StandsBehind job how x right left a t cs
+      (t : Trail StrandState) (cs : Course) → IsReached (strands_of_job job) a.state → Fits x a t cs → AreWaitingBelow job of lowest a t x.forks (reverse bs) → StandsBehind job how x right left a t cs
       → IsBehind job of how x right left bs b
   behind_whole mode.Goes x right left bs b run lowest based a t cs reached fits below s =
       (s.0, record { run = run; lowest = lowest; based = based; start = a; trail = t; course = cs; reached = reached; written = fits; below = below; stands = s.1 })
@@ -92,22 +92,10 @@ module _ {T J : Type 0} (job : Job) (of : T → Token) where
 
   -- both came to their ends, and their bodies are joined
   pub goes_behind : (x : Token) (how : Mode) (right left next : InBlocks) (bs : List (Below T J)) (b : Base T J) → how ≡ mode.Goes → IsBehind job of how x right left bs b
-      → next ≡ bodies.joined (strands_of_job job) right left → IsRunning job of x next mode.Goes bs b
+      → next ≡ bodies.joined_body (strands_of_job job) right left → IsRunning job of x next mode.Goes bs b
   goes_behind x how right left next bs b is h e = subst (λ (w : InBlocks). IsRunning job of x w mode.Goes bs b) (sym e) (behind_so x right left bs b is h).1
 
   -- or are not, for want of memory
   pub fails_behind : (x z : Token) (how : Mode) (right left next : InBlocks) (bs : List (Below T J)) (b : Base T J) → how ≡ mode.Goes → IsBehind job of how x right left bs b → z ≡ halted x Memory
       → IsRunning job of z next mode.Stopped bs b
-  fails_behind x z how right left next bs b is h halted_so = wants_memory job of x z mode.Goes (bodies.joined (strands_of_job job) right left) next bs b (behind_so x right left bs b is h).1 halted_so
-
-  pub halts_behind : (budget : ℕ) (x : Token) (how : Mode) (right left : InBlocks) (bs : List (Below T J)) (b : Base T J) → how ≡ mode.Goes → IsBehind job of how x right left bs b → MayHalt budget x Memory
-  halts_behind budget x how right left bs b is h =
-      let s = (behind_so x right left bs b is h).1.stands in record { stop = s.free.on.stop; told = s.free.on.told; phase = s.phase; spent = tt }
-
-  pub dies_behind : (x : Token) (how : Mode) (to : ℕ) (right left next : InBlocks) (bs : List (Below T J)) (b : Base T J) → how ≡ mode.Dies to → IsBehind job of how x right left bs b → next ≡ gave_up right
-      → IsRunning job of x next how bs b
-  dies_behind x how to right left next bs b is h e =
-      subst (λ (w : InBlocks). IsRunning job of x w how bs b) (sym e) (subst (λ (m : Mode). IsRunning job of x (gave_up right) m bs b) (sym is) (behind_so x right left bs b is h).1)
-
-  pub stops_behind : (x : Token) (how : Mode) (right left : InBlocks) (bs : List (Below T J)) (b : Base T J) → how ≡ mode.Stopped → IsBehind job of how x right left bs b → IsRunning job of x right how bs b
-  stops_behind x how right left bs b is h = subst (λ (m : Mode). IsRunning job of x right m bs b) (sym is) (behind_so x right left bs b is h)
+  fails_behind x z how right left next bs b is h halted_so = wants_memory job of x z mode.Goes (bodies.joined_body (strands_of_job job) right left) next bs b (behind_so x right left bs b is h).1 halted_so

@@ -24,7 +24,7 @@ use Rattle.cw_course.specs.Trails.{Trail, opens, in_block, in_left, in_right, pa
 use Rattle.cw_course.proofs.Trails.Moves as move
 use Rattle.cw_course.proofs.Trails.Steps as step
 use Rattle.cw_body.specs.Bodies as bodies
-use Rattle.cw_body.specs.Bodies.{InBlocks, PendingBegin, back_to, begun, forgot, went_back, seen_from}
+use Rattle.cw_body.specs.Bodies.{InBlocks, PendingBegin, back_to, body_in_block, forgot, went_back, seen_from}
 use Rattle.cw_body.specs.declared.stage.Stage.TheVariants as stage
 use Rattle.cw_log.proofs.Going.{with_stamp, within_rest}
 use Rattle.cw_pool.specs.Blocks.{begin_at}
@@ -32,7 +32,7 @@ use Rattle.cw_pool.specs.declared.task.Mode.{Mode}
 use Rattle.cw_pool.specs.declared.task.Mode.TheVariants as mode
 use Rattle.cw_pool.specs.declared.task.Below.{Below}
 use Rattle.cw_pool.specs.declared.task.Base.{Base}
-use Rattle.cw_pool.specs.Tasks.{Start, IsRun, IsReached, Fits, IsFree, AreFalling, StandsGoing, StandsDying, IsBase, AreBelow, IsRunning, begins_in, stamps_in, seen_in, rights_to, rights_of}
+use Rattle.cw_pool.specs.Tasks.{Start, IsRun, IsReached, Fits, IsFree, AreFalling, StandsGoing, StandsDying, IsBase, AreWaitingBelow, IsRunning, begins_in, stamps_in, seen_in, rights_to, rights_of}
 use Rattle.cw_pool.specs.Tasks as waiting
 use Rattle.cw_pool.proofs.Tasks.Reaching.{blocks_in, reached_now, end_in_block}
 use Rattle.cw_pool.proofs.Tasks.Pages.{many_in_block, in_some_block, innermost, begin_found}
@@ -45,10 +45,6 @@ use Rattle.cw_pool.proofs.Tasks.Acting.{going}
 pub falling_rest : (bs : List ℕ) → AreFalling bs → AreFalling (drop 1 bs)
 falling_rest [] f = tt
 falling_rest (b ∷ bs) f = f.2
-
--- of falling stamps the first is not behind itself
-first_once : (b : ℕ) (bs : List ℕ) → AreFalling (b ∷ bs) → Contains bs b → ⊥
-first_once b bs (some, f, more) h = absurd (omega (arith, All-contains (λ c. c < b) bs b f h))
 
 behind_less : (b : ℕ) (bs : List ℕ) (v : ℕ) → AreFalling (b ∷ bs) → Contains bs v → v < b
 behind_less b bs v (some, f, more) h = All-contains (λ c. c < b) bs v f h
@@ -117,21 +113,21 @@ module _ (job : Job) where
   -- ## How it stands
 
   goes_begun : (x : Token) (body : InBlocks) (a : Start) (t : Trail StrandState) (cs : Course) (stamp : ℕ) (s : StandsGoing job x body a t cs) → (strands_of_job job).want body.state ≡ want.Begin → IsLater x stamp
-      → StandsGoing job (began x stamp) (begun (strands_of_job job) body) a (in_block t cs s.now stamp) nothing
+      → StandsGoing job (began x stamp) (body_in_block (strands_of_job job) body) a (in_block t cs s.now stamp) nothing
   goes_begun x body a t cs stamp s e l = record {
     now = (strands_of_job job).answer s.now Nothing;
     stands = move.begins (strands_of_job job) a.state t cs s.now stamp s.stands (sym (ap (λ (w : InBlocks). (strands_of_job job).want w.state) s.there) ∙ e);
-    there = ap (λ (w : InBlocks). begun (strands_of_job job) w) s.there;
+    there = ap (λ (w : InBlocks). body_in_block (strands_of_job job) w) s.there;
     free = free_began x stamp s.free l;
     phase = s.phase;
   }
 
   goes_ended : (x : Token) (body : InBlocks) (a : Start) (t : Trail StrandState) (cs js : Course) (b : StrandState) (stamp end : ℕ) (s : StandsGoing job x body a (in_block t cs b stamp) js)
-      → (strands_of_job job).want body.state ≡ want.End → StandsGoing job (ended x Committed end) (bodies.ended (strands_of_job job) body) a t (block cs Committed stamp end js)
+      → (strands_of_job job).want body.state ≡ want.End → StandsGoing job (ended x Committed end) (bodies.body_behind_block (strands_of_job job) body) a t (block cs Committed stamp end js)
   goes_ended x body a t cs js b stamp end s e = record {
     now = (strands_of_job job).answer s.now Nothing;
     stands = move.ends (strands_of_job job) a.state t cs js b s.now stamp end s.stands (sym (ap (λ (w : InBlocks). (strands_of_job job).want w.state) s.there) ∙ e);
-    there = ap (λ (w : InBlocks). bodies.ended (strands_of_job job) w) s.there;
+    there = ap (λ (w : InBlocks). bodies.body_behind_block (strands_of_job job) w) s.there;
     free = free_ended x Committed end s.free;
     phase = s.phase;
   }
@@ -166,18 +162,18 @@ some_kept : (k : ℕ) (ps qs : List PendingBegin) → qs ≡ map (seen_in k) ps 
 some_kept k ps qs e l = omega (arith, ap (λ (us : List PendingBegin). length us) e, length-map ps (seen_in k), l)
 
 pub unblock : {T J : Type 0} {job : Job} {of : T → Token} {lowest a : Start} {t : Trail StrandState} {cs : Course} {b : StrandState} {stamp : ℕ} {os : List Open} {bs : List (Below T J)}
-    → AreBelow job of lowest a (in_block t cs b stamp) os bs → AreBelow job of lowest a t os bs
+    → AreWaitingBelow job of lowest a (in_block t cs b stamp) os bs → AreWaitingBelow job of lowest a t os bs
 unblock (waiting.block h) = h
 
 module _ {T J : Type 0} (job : Job) (of : T → Token) where
   pub begins_so : (x z : Token) (how : Mode) (body next : InBlocks) (bs : List (Below T J)) (b : Base T J) (stamp : ℕ) → how ≡ mode.Goes → IsRunning job of x body how bs b
-      → (strands_of_job job).want body.state ≡ want.Begin → IsLater x stamp → z ≡ began x stamp → next ≡ begun (strands_of_job job) body → IsRunning job of z next how bs b
+      → (strands_of_job job).want body.state ≡ want.Begin → IsLater x stamp → z ≡ began x stamp → next ≡ body_in_block (strands_of_job job) body → IsRunning job of z next how bs b
   begins_so x z how body next bs b stamp is r0 e l began_so next_so =
       let r = going job of is r0 in
       let s = r.stands in
       subst (λ (m : Mode). IsRunning job of z next m bs b) (sym is)
       (subst (λ (w : InBlocks). IsRunning job of z w mode.Goes bs b) (sym next_so)
-      (subst (λ (w : Token). IsRunning job of w (begun (strands_of_job job) body) mode.Goes bs b) (sym began_so) (record {
+      (subst (λ (w : Token). IsRunning job of w (body_in_block (strands_of_job job) body) mode.Goes bs b) (sym began_so) (record {
         run = r.run;
         lowest = r.lowest;
         based = r.based;
@@ -193,13 +189,13 @@ module _ {T J : Type 0} (job : Job) (of : T → Token) where
   pub begins_last : (x z u : Token) (how : Mode) (body next : InBlocks) (bs : List (Below T J)) (b : Base T J) (stamp : ℕ) → how ≡ mode.Goes → IsRunning job of x body how bs b
       → (strands_of_job job).want body.state ≡ want.Begin → IsLater x stamp → z ≡ began x stamp → u ≡ halted z Memory → IsRunning job of u next mode.Stopped bs b
   begins_last x z u how body next bs b stamp is r0 e l began_so halted_so =
-      let r = begins_so x z how body (begun (strands_of_job job) body) bs b stamp is r0 e l began_so refl in
-      wants_memory job of z u how (begun (strands_of_job job) body) next bs b r halted_so
+      let r = begins_so x z how body (body_in_block (strands_of_job job) body) bs b stamp is r0 e l began_so refl in
+      wants_memory job of z u how (body_in_block (strands_of_job job) body) next bs b r halted_so
 
   -- where a block of its own is pending
   ended_here : (x : Token) (body : InBlocks) (bs : List (Below T J)) (b : Base T J) (end : ℕ) (run : IsRun job) (lowest : Start) (based : IsBase job of b mode.Goes lowest) (a : Start)
-      (t : Trail StrandState) (js : Course) → IsReached (strands_of_job job) a.state → Fits x a t js → AreBelow job of lowest a t x.forks (reverse bs) → StandsGoing job x body a t js
-      → (strands_of_job job).want body.state ≡ want.End → (blocks_in (strands_of_job job) t ≡ 0 → ⊥) → IsRunning job of (ended x Committed end) (bodies.ended (strands_of_job job) body) mode.Goes bs b
+      (t : Trail StrandState) (js : Course) → IsReached (strands_of_job job) a.state → Fits x a t js → AreWaitingBelow job of lowest a t x.forks (reverse bs) → StandsGoing job x body a t js
+      → (strands_of_job job).want body.state ≡ want.End → (blocks_in (strands_of_job job) t ≡ 0 → ⊥) → IsRunning job of (ended x Committed end) (bodies.body_behind_block (strands_of_job job) body) mode.Goes bs b
   ended_here x body bs b end run lowest based a (in_block t cs c stamp) js reached w below s e some = record {
     run = run;
     lowest = lowest;
@@ -225,19 +221,19 @@ module _ {T J : Type 0} (job : Job) (of : T → Token) where
       (sym (ap (λ (w : InBlocks). (strands_of_job job).want w.state) s.there) ∙ e)
 
   pub ends_so : (x z : Token) (how : Mode) (body next : InBlocks) (bs : List (Below T J)) (b : Base T J) (end : ℕ) → how ≡ mode.Goes → IsRunning job of x body how bs b
-      → (strands_of_job job).want body.state ≡ want.End → z ≡ ended x Committed end → next ≡ bodies.ended (strands_of_job job) body → IsRunning job of z next how bs b
+      → (strands_of_job job).want body.state ≡ want.End → z ≡ ended x Committed end → next ≡ bodies.body_behind_block (strands_of_job job) body → IsRunning job of z next how bs b
   ends_so x z how body next bs b end is r0 e ended_so next_so =
       let r = going job of is r0 in
       subst (λ (m : Mode). IsRunning job of z next m bs b) (sym is)
       (subst (λ (w : InBlocks). IsRunning job of z w mode.Goes bs b) (sym next_so)
-      (subst (λ (w : Token). IsRunning job of w (bodies.ended (strands_of_job job) body) mode.Goes bs b) (sym ended_so)
+      (subst (λ (w : Token). IsRunning job of w (bodies.body_behind_block (strands_of_job job) body) mode.Goes bs b) (sym ended_so)
       (ended_here x body bs b end r.run r.lowest r.based r.start r.trail r.course r.reached r.written r.below r.stands e (in_own_block x body bs b r e))))
 
   pub ends_last : (x z u : Token) (how : Mode) (body next : InBlocks) (bs : List (Below T J)) (b : Base T J) (end : ℕ) → how ≡ mode.Goes → IsRunning job of x body how bs b
       → (strands_of_job job).want body.state ≡ want.End → z ≡ ended x Committed end → u ≡ halted z Memory → IsRunning job of u next mode.Stopped bs b
   ends_last x z u how body next bs b end is r0 e ended_so halted_so =
-      let r = ends_so x z how body (bodies.ended (strands_of_job job) body) bs b end is r0 e ended_so refl in
-      wants_memory job of z u how (bodies.ended (strands_of_job job) body) next bs b r halted_so
+      let r = ends_so x z how body (bodies.body_behind_block (strands_of_job job) body) bs b end is r0 e ended_so refl in
+      wants_memory job of z u how (bodies.body_behind_block (strands_of_job job) body) next bs b r halted_so
 
   -- so its token's place is one, and its body has one
   pub has_block : (x : Token) (how : Mode) (body : InBlocks) (bs : List (Below T J)) (b : Base T J) → how ≡ mode.Goes → IsRunning job of x body how bs b
@@ -313,7 +309,7 @@ module _ (job : Job) where
 
 module _ {T J : Type 0} (job : Job) (of : T → Token) where
   back_here : (x : Token) (body : InBlocks) (to begin end : ℕ) (bs : List (Below T J)) (b : Base T J) (run : IsRun job) (lowest : Start) (based : IsBase job of b (mode.Dies to) lowest) (a : Start)
-      (t : Trail StrandState) (js : Course) → IsReached (strands_of_job job) a.state → Fits x a t js → AreBelow job of lowest a t x.forks (reverse bs) → StandsDying job to x body a t js
+      (t : Trail StrandState) (js : Course) → IsReached (strands_of_job job) a.state → Fits x a t js → AreWaitingBelow job of lowest a t x.forks (reverse bs) → StandsDying job to x body a t js
       → innermost t ≡ Some begin → begin ≡ to → IsRunning job of (ended x Aborted end) (went_back body) mode.Goes bs b
   back_here x body to begin end bs b run lowest based a (in_block t cs c stamp) js reached w below d e same = record {
     run = run;
@@ -332,7 +328,7 @@ module _ {T J : Type 0} (job : Job) (of : T → Token) where
   back_here x body to begin end bs b run lowest based a (in_right t cs c stamp ls l) js reached w below d e same = absurd (none_some begin e)
 
   further_here : (x : Token) (body : InBlocks) (to begin end : ℕ) (bs : List (Below T J)) (b : Base T J) (run : IsRun job) (lowest : Start) (based : IsBase job of b (mode.Dies to) lowest) (a : Start)
-      (t : Trail StrandState) (js : Course) → IsReached (strands_of_job job) a.state → Fits x a t js → AreBelow job of lowest a t x.forks (reverse bs) → StandsDying job to x body a t js
+      (t : Trail StrandState) (js : Course) → IsReached (strands_of_job job) a.state → Fits x a t js → AreWaitingBelow job of lowest a t x.forks (reverse bs) → StandsDying job to x body a t js
       → innermost t ≡ Some begin → (begin ≡ to → ⊥) → IsRunning job of (ended x Aborted end) (forgot body) (mode.Dies to) bs b
   further_here x body to begin end bs b run lowest based a (in_block t cs c stamp) js reached w below d e other = record {
     run = run;

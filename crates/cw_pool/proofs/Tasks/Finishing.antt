@@ -3,7 +3,7 @@ use Rattle.std.proofs.Common.{◌≡◌, ℕ, suc, ◌+◌, List, [], ◌∷◌,
 use Rattle.std.specs.Prelude.{IsTrue}
 use Rattle.cw_strand.specs.Strands.{is_over}
 use Rattle.cw_strand.specs.declared.want.Want.{Want}
-use Rattle.cw_job.specs.Jobs.{Job, bare as bare_job}
+use Rattle.cw_job.specs.Jobs.{Job, bare_job}
 use Rattle.cw_job.specs.Room.Strands.{StrandState, strands_of_job}
 use Rattle.cw_job.proofs.Room.Wants.{same_want}
 use Rattle.cw_tree.specs.declared.node.Kind.TheVariants.{Block}
@@ -14,7 +14,7 @@ use Rattle.cw_log.specs.declared.token.Phase.TheVariants.{Going, Parted}
 use Rattle.cw_log.specs.declared.token.Token.{Token}
 use Rattle.cw_log.specs.Tokens.{IsDone}
 use Rattle.cw_course.specs.Courses.{Course, block, laid, size}
-use Rattle.cw_course.specs.Closings.{FaultsIn, bare}
+use Rattle.cw_course.specs.Closings.{FaultsIn, bare_log}
 use Rattle.cw_course.specs.Trails.{Trail, opens, in_block, in_left, in_right, page, nodes_of, place_of, strand_in}
 use Rattle.cw_course.proofs.Trails.Moves as move
 use Rattle.cw_body.specs.Bodies.{InBlocks, want_of}
@@ -24,7 +24,7 @@ use Rattle.cw_pool.specs.declared.task.Below.{Below}
 use Rattle.cw_pool.specs.declared.task.Base.{Base}
 use Rattle.cw_pool.specs.Ends.{MayEnd}
 use Rattle.cw_pool.specs.Tasks as waiting
-use Rattle.cw_pool.specs.Tasks.{Start, IsRun, IsReached, Fits, AreFalling, StandsGoing, StandsDying, StandsStopped, IsBase, AreBelow, IsRunning, stamps_in, rights_of}
+use Rattle.cw_pool.specs.Tasks.{Start, IsRun, IsReached, Fits, AreFalling, StandsGoing, StandsDying, StandsStopped, IsBase, AreWaitingBelow, IsRunning, stamps_in, rights_of}
 use Rattle.cw_pool.proofs.Tasks.Reaching.{blocks_in, reached_now, over_in_none}
 use Rattle.cw_pool.proofs.Tasks.Pages.{many, many_in_block, innermost}
 use Rattle.cw_pool.proofs.Tasks.Blocks.{in_found_none, rights_shut, unblock}
@@ -45,8 +45,8 @@ module _ (job : Job) where
   -- what it leaves in a log that began so, outside of all blocks of its own
   pub record Leaves (x : Token) (body : InBlocks) (how : Mode) (a : Start) (t : Trail StrandState) (cs : Course) : Type 0 where
     pub outside : IsOutside t
-    pub own : bare x.own ≡ record { column = a.column; from = a.from; fork = a.at; nodes = nodes_of t cs; conflicts = [] }
-    pub joined : map bare x.joined ≡ rights_of t cs a.column
+    pub own : bare_log x.own ≡ record { column = a.column; from = a.from; fork = a.at; nodes = nodes_of t cs; conflicts = [] }
+    pub joined : map bare_log x.joined ≡ rights_of t cs a.column
     pub fork : x.fork ≡ a.fork
     pub split : x.split ≡ a.split
     pub falling : AreFalling (stamps_in t a.above)
@@ -63,7 +63,7 @@ module _ {T J : Type 0} (job : Job) (of : T → Token) where
     pub course : Course
     pub reached : IsReached (strands_of_job job) start.state
     pub leaves : Leaves job x body how start trail course
-    pub below : AreBelow job of lowest start trail x.forks (reverse bs)
+    pub below : AreWaitingBelow job of lowest start trail x.forks (reverse bs)
 
 pub not_parted : (fork : ℕ) → Going ≡ Parted fork → ⊥
 not_parted fork e = cc
@@ -125,8 +125,8 @@ module _ (job : Job) where
 module _ {T J : Type 0} (job : Job) (of : T → Token) where
   out_of_blocks : (x : Token) (body : InBlocks) (bs : List (Below T J)) (b : Base T J) (run : IsRun job) (lowest : Start) (based : IsBase job of b mode.Stopped lowest) (a : Start)
       (t : Trail StrandState) (cs : Course) → IsReached (strands_of_job job) a.state
-      → bare x.own ≡ record { column = a.column; from = a.from; fork = a.at; nodes = nodes_of t cs; conflicts = [] } → map bare x.joined ≡ rights_of t cs a.column
-      → x.fork ≡ a.fork → x.split ≡ a.split → AreFalling (stamps_in t a.above) → AreBelow job of lowest a t x.forks (reverse bs) → StandsStopped job x a t cs → Finished job of x body mode.Stopped bs b
+      → bare_log x.own ≡ record { column = a.column; from = a.from; fork = a.at; nodes = nodes_of t cs; conflicts = [] } → map bare_log x.joined ≡ rights_of t cs a.column
+      → x.fork ≡ a.fork → x.split ≡ a.split → AreFalling (stamps_in t a.above) → AreWaitingBelow job of lowest a t x.forks (reverse bs) → StandsStopped job x a t cs → Finished job of x body mode.Stopped bs b
   out_of_blocks x body bs b run lowest based a (in_block t cs c stamp) js reached own joined fork split falling below s =
       out_of_blocks x body bs b run lowest based a t (block cs Pending stamp 0 js) reached
       (own ∙ ap (λ ns. record { column = a.column; from = a.from; fork = a.at; nodes = ns; conflicts = [] }) (broken t cs js c stamp)) (joined ∙ rights_shut t cs js c stamp 0 a.column Pending)
@@ -182,6 +182,6 @@ module _ {T J : Type 0} (job : Job) (of : T → Token) where
   finished x body mode.Waits bs b r e = absurd e
 
   -- at the bottom of a task its log is the lowest one, with nothing open
-  pub at_bottom : {lowest a : Start} {t : Trail StrandState} {os : List Open} → IsOutside t → AreBelow {T = T} {J = J} job of lowest a t os [] → (a ≡ lowest) × (t ≡ opens) × (os ≡ [])
+  pub at_bottom : {lowest a : Start} {t : Trail StrandState} {os : List Open} → IsOutside t → AreWaitingBelow {T = T} {J = J} job of lowest a t os [] → (a ≡ lowest) × (t ≡ opens) × (os ≡ [])
   at_bottom o waiting.bottom = (refl, refl, refl)
   at_bottom o (waiting.block h) = absurd o

@@ -29,7 +29,7 @@ use Rattle.cw_pool.specs.declared.task.Below.TheVariants as below
 use Rattle.cw_pool.specs.declared.task.Base.{Base}
 use Rattle.cw_pool.specs.declared.task.Base.TheVariants as base
 use Rattle.cw_pool.specs.Tasks as waiting
-use Rattle.cw_pool.specs.Tasks.{Start, Fits, IsFree, IsReached, StandsGoing, IsHalf, AreBelow, IsRunning, begins_in, stamps_in, rights_of, beside, opened, told_by, goes_in}
+use Rattle.cw_pool.specs.Tasks.{Start, Fits, IsFree, IsReached, StandsGoing, IsHalf, AreWaitingBelow, IsRunning, begins_in, stamps_in, rights_of, beside, opened, told_by, goes_in}
 use Rattle.cw_pool.proofs.Tasks.Reaching.{reached_now, reached_right}
 use Rattle.cw_pool.proofs.Tasks.Going.{top_last}
 use Rattle.cw_pool.proofs.Tasks.Stopping.{wants_memory}
@@ -134,14 +134,14 @@ module _ {T : Type 0} (job : Job) (of : T → Token) where
 
 module _ {T J : Type 0} (job : Job) (of : T → Token) where
   below_left : (x : Token) (body : InBlocks) (bs : List (Below T J)) (b : Base T J) (r : IsRunning job of x body mode.Goes bs b) (side : Side) (column : Option ℕ) (stamp : ℕ) (e : Below T J)
-      → AreBelow job of r.lowest r.start (in_left r.trail r.course r.stands.now column stamp) (opened side r.start r.trail ∷ x.forks) (e ∷ reverse bs)
-      → AreBelow job of r.lowest r.start (in_left r.trail r.course r.stands.now column stamp) (forked_with x side column stamp).forks (reverse (bs ++ e ∷ []))
+      → AreWaitingBelow job of r.lowest r.start (in_left r.trail r.course r.stands.now column stamp) (opened side r.start r.trail ∷ x.forks) (e ∷ reverse bs)
+      → AreWaitingBelow job of r.lowest r.start (in_left r.trail r.course r.stands.now column stamp) (forked_with x side column stamp).forks (reverse (bs ++ e ∷ []))
   below_left x body bs b r side column stamp e h =
-      top_last job of bs e (subst (λ (o : Open). AreBelow job of r.lowest r.start (in_left r.trail r.course r.stands.now column stamp) (o ∷ x.forks) (e ∷ reverse bs)) (sym (fits_opened x r.start r.trail r.course side r.written)) h)
+      top_last job of bs e (subst (λ (o : Open). AreWaitingBelow job of r.lowest r.start (in_left r.trail r.course r.stands.now column stamp) (o ∷ x.forks) (e ∷ reverse bs)) (sym (fits_opened x r.start r.trail r.course side r.written)) h)
 
   goes_on_left : (x : Token) (body left : InBlocks) (bs : List (Below T J)) (b : Base T J) (r : IsRunning job of x body mode.Goes bs b) (side : Side) (column : Option ℕ) (stamp : ℕ) (e : Below T J)
       → (strands_of_job job).want body.state ≡ want.Fork → left ≡ bodies.left_of (strands_of_job job) body
-      → AreBelow job of r.lowest r.start (in_left r.trail r.course r.stands.now column stamp) (opened side r.start r.trail ∷ x.forks) (e ∷ reverse bs)
+      → AreWaitingBelow job of r.lowest r.start (in_left r.trail r.course r.stands.now column stamp) (opened side r.start r.trail ∷ x.forks) (e ∷ reverse bs)
       → IsRunning job of (forked_with x side column stamp) left mode.Goes (bs ++ e ∷ []) b
   goes_on_left x body left bs b r side column stamp e wants is h = record {
     run = r.run;
@@ -165,7 +165,7 @@ module _ {T J : Type 0} (job : Job) (of : T → Token) where
       let n : length x.own.nodes ≡ length (nodes_of r.trail r.course) = ap (λ (o : Log). length o.nodes) r.written.own in
       subst (λ (w : Token). IsRunning job of w left mode.Goes (bs ++ below.Inline right ∷ []) b) (sym branched_so)
       (goes_on_left x body left bs b r (First (length x.own.nodes + 2)) None stamp (below.Inline right) wants l_is
-      (subst (λ (k : ℕ). AreBelow job of r.lowest r.start (in_left r.trail r.course r.stands.now None stamp) (opened (First (k + 2)) r.start r.trail ∷ x.forks) (below.Inline right ∷ reverse bs)) (sym n)
+      (subst (λ (k : ℕ). AreWaitingBelow job of r.lowest r.start (in_left r.trail r.course r.stands.now None stamp) (opened (First (k + 2)) r.start r.trail ∷ x.forks) (below.Inline right ∷ reverse bs)) (sym n)
       (waiting.first (right_there job x body right r.start r.trail r.course r.stands r_is) r.below)))
 
   -- the left strand of one that has two

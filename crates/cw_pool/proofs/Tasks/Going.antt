@@ -20,16 +20,12 @@ use Rattle.cw_pool.specs.declared.task.Mode.TheVariants as mode
 use Rattle.cw_pool.specs.declared.task.Below.{Below}
 use Rattle.cw_pool.specs.declared.task.Base.{Base}
 use Rattle.cw_pool.specs.declared.task.Base.TheVariants as base
-use Rattle.cw_pool.specs.Tasks.{Start, Fits, IsFree, StandsSo, IsBase, AreBelow, IsRunning}
-
--- one more on a stack whose room was made before
-pub pushed : {X : Type 0} → (x : X) {old room new : List X} → room ≡ old → new ≡ room ++ x ∷ [] → new ≡ old ++ x ∷ []
-pushed x e f = f ∙ ap (λ us. us ++ x ∷ []) e
+use Rattle.cw_pool.specs.Tasks.{Start, Fits, IsFree, StandsInMode, IsBase, AreWaitingBelow, IsRunning}
 
 module _ {T J : Type 0} (job : Job) (of : T → Token) where
   -- with another course behind what is open
   pub rebuilt : (x y : Token) (body next : InBlocks) (how after : Mode) (bs : List (Below T J)) (b : Base T J) (r : IsRunning job of x body how bs b) (cs : Course)
-      → IsBase job of b after r.lowest → Fits y r.start r.trail cs → y.forks ≡ x.forks → StandsSo job after y next r.start r.trail cs → IsRunning job of y next after bs b
+      → IsBase job of b after r.lowest → Fits y r.start r.trail cs → y.forks ≡ x.forks → StandsInMode job after y next r.start r.trail cs → IsRunning job of y next after bs b
   rebuilt x y body next how after bs b r cs based fits same stands = record {
     run = r.run;
     lowest = r.lowest;
@@ -39,7 +35,7 @@ module _ {T J : Type 0} (job : Job) (of : T → Token) where
     course = cs;
     reached = r.reached;
     written = fits;
-    below = subst (λ (os : List Open). AreBelow job of r.lowest r.start r.trail os (reverse bs)) (sym same) r.below;
+    below = subst (λ (os : List Open). AreWaitingBelow job of r.lowest r.start r.trail os (reverse bs)) (sym same) r.below;
     stands = stands;
   }
 
@@ -48,11 +44,11 @@ module _ {T J : Type 0} (job : Job) (of : T → Token) where
   with_below x body how bs cs b e r = subst (λ (us : List (Below T J)). IsRunning job of x body how us b) (sym e) r
 
   -- what is on top of a stack stands last in it
-  pub top_first : {lowest a : Start} {t : Trail StrandState} {os : List Open} (bs : List (Below T J)) (e : Below T J) → AreBelow job of lowest a t os (reverse (bs ++ e ∷ [])) → AreBelow job of lowest a t os (e ∷ reverse bs)
-  top_first {lowest} {a} {t} {os} bs e h = subst (λ (us : List (Below T J)). AreBelow job of lowest a t os us) (reverse-append bs (e ∷ [])) h
+  pub top_first : {lowest a : Start} {t : Trail StrandState} {os : List Open} (bs : List (Below T J)) (e : Below T J) → AreWaitingBelow job of lowest a t os (reverse (bs ++ e ∷ [])) → AreWaitingBelow job of lowest a t os (e ∷ reverse bs)
+  top_first {lowest} {a} {t} {os} bs e h = subst (λ (us : List (Below T J)). AreWaitingBelow job of lowest a t os us) (reverse-append bs (e ∷ [])) h
 
-  pub top_last : {lowest a : Start} {t : Trail StrandState} {os : List Open} (bs : List (Below T J)) (e : Below T J) → AreBelow job of lowest a t os (e ∷ reverse bs) → AreBelow job of lowest a t os (reverse (bs ++ e ∷ []))
-  top_last {lowest} {a} {t} {os} bs e h = subst (λ (us : List (Below T J)). AreBelow job of lowest a t os us) (sym (reverse-append bs (e ∷ []))) h
+  pub top_last : {lowest a : Start} {t : Trail StrandState} {os : List Open} (bs : List (Below T J)) (e : Below T J) → AreWaitingBelow job of lowest a t os (e ∷ reverse bs) → AreWaitingBelow job of lowest a t os (reverse (bs ++ e ∷ []))
+  top_last {lowest} {a} {t} {os} bs e h = subst (λ (us : List (Below T J)). AreWaitingBelow job of lowest a t os us) (sym (reverse-append bs (e ∷ []))) h
 
   -- one that stops need not be split
   pub base_stops : (b : Base T J) (how : Mode) (a : Start) → IsBase job of b how a → IsBase job of b mode.Stopped a

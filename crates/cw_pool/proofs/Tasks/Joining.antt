@@ -8,7 +8,7 @@ use Rattle.cw_code.specs.declared.FaultKind.{FaultKind}
 use Rattle.cw_strand.specs.declared.want.Want.{Want}
 use Rattle.cw_strand.specs.declared.want.Want.TheVariants as want
 use Rattle.cw_strand.specs.Strands.{is_over}
-use Rattle.cw_job.specs.Jobs.{Job, bare as bare_job}
+use Rattle.cw_job.specs.Jobs.{Job, bare_job}
 use Rattle.cw_job.specs.Room.Strands.{StrandState, strands_of_job}
 use Rattle.cw_job.proofs.Room.Wants.{same_want}
 use Rattle.cw_tree.specs.declared.conflict.Conflict.{Conflict}
@@ -21,7 +21,7 @@ use Rattle.cw_log.specs.declared.token.Side.TheVariants.{Beside}
 use Rattle.cw_log.specs.declared.token.Token.{Token}
 use Rattle.cw_log.specs.Tokens.{IsOff, IsOn, conflicts_in, kept_stop, left_behind, logs, taken_in}
 use Rattle.cw_course.specs.Courses.{Course, Goes, fork, own_log, rights, size}
-use Rattle.cw_course.specs.Closings.{FaultsIn, bare}
+use Rattle.cw_course.specs.Closings.{FaultsIn, bare_log}
 use Rattle.cw_course.specs.Trails.{Trail, opens, in_left, Stands, Stopped, page, nodes_of, place_of, strand_in}
 use Rattle.cw_course.proofs.Trails.Moves as move
 use Rattle.cw_course.proofs.Trails.Steps as step
@@ -30,7 +30,7 @@ use Rattle.cw_body.specs.Bodies as bodies
 use Rattle.cw_body.specs.Bodies.{InBlocks, PendingBegin, gave_up, want_of}
 use Rattle.cw_pool.specs.declared.task.Mode.{Mode}
 use Rattle.cw_pool.specs.declared.task.Mode.TheVariants as mode
-use Rattle.cw_pool.specs.Ends.{MayJoin, both, dies_beside}
+use Rattle.cw_pool.specs.Ends.{MayJoin, mode_of_both, dies_beside}
 use Rattle.cw_pool.specs.Tasks.{Start, IsRun, IsFree, IsReached, Fits, AreFalling, HasFault, StandsGoing, StandsDying, StandsStopped, StandsWaiting, begins_in, stamps_in, seen_in, rights_to, rights_of, beside, opened, goes_in}
 use Rattle.cw_pool.proofs.Tasks.Reaching.{start_not_end}
 use Rattle.cw_pool.proofs.Tasks.Pages.{many, many_in_left}
@@ -222,7 +222,7 @@ module _ (budget : ℕ) (x y : Token) (a : Start) (t : Trail StrandState) (os : 
   tells_right mode.Waits f h = (on_both f.0 h.0, all_conflicts (λ (c : Conflict). Contains around c.victim → ⊥) f.1 h.1)
 
   -- what the conflicts of both tell
-  pub tells_both : (m n : Mode) → Tells budget m x around → Tells budget n y around → Tells budget (both m n) one around
+  pub tells_both : (m n : Mode) → Tells budget m x around → Tells budget n y around → Tells budget (mode_of_both m n) one around
   tells_both mode.Goes n f h = tells_right n f h
   tells_both (mode.Dies to) n f h = tells_beside to n f h
   tells_both mode.Stopped n f h = off_left f
@@ -333,8 +333,8 @@ module _ (job : Job) where
 
   -- what is written of its left strand, and of its right one
   pub record LeftLeaves (how : Mode) (x : Token) (body : InBlocks) (a : Start) (t : Trail StrandState) (cs : Course) : Type 0 where
-    pub own : bare x.own ≡ record { column = a.column; from = a.from; fork = a.at; nodes = nodes_of t cs; conflicts = [] }
-    pub joined : map bare x.joined ≡ rights_of t cs a.column
+    pub own : bare_log x.own ≡ record { column = a.column; from = a.from; fork = a.at; nodes = nodes_of t cs; conflicts = [] }
+    pub joined : map bare_log x.joined ≡ rights_of t cs a.column
     pub fork : x.fork ≡ a.fork
     pub split : x.split ≡ a.split
     pub falling : AreFalling (stamps_in t a.above)
@@ -342,8 +342,8 @@ module _ (job : Job) where
     pub stands : LeftBody how body a t cs
 
   pub record RightLeaves (how : Mode) (y : Token) (body : InBlocks) (a : Start) (cs : Course) : Type 0 where
-    pub own : bare y.own ≡ own_log cs a.column a.from a.at
-    pub joined : map bare y.joined ≡ rights cs a.column 1
+    pub own : bare_log y.own ≡ own_log cs a.column a.from a.at
+    pub joined : map bare_log y.joined ≡ rights cs a.column 1
     pub leaving : Leaving how y a opens cs
     pub stands : RightBody how body a cs
 
@@ -395,7 +395,7 @@ module _ (job : Job) where
     pub fits_joined : (m k : Mode) → LeftLeaves m x left a left_trail ls → RightLeaves k y right right_start rs → Fits (as_one x y a t os p) a t whole
     fits_joined m k v w = record {
       own = v.own ∙ ap (λ ns. record { column = a.column; from = a.from; fork = a.at; nodes = ns; conflicts = [] }) (step.joined t cs ls rs b column stamp);
-      joined = map-append bare x.joined (y.own ∷ y.joined) ∙ rights_joined t cs ls rs b column stamp a.column (map bare x.joined) (map bare y.joined) (bare y.own) v.joined w.own w.joined;
+      joined = map-append bare_log x.joined (y.own ∷ y.joined) ∙ rights_joined t cs ls rs b column stamp a.column (map bare_log x.joined) (map bare_log y.joined) (bare_log y.own) v.joined w.own w.joined;
       strand = refl;
       place = refl;
       around = refl;
@@ -432,24 +432,24 @@ module _ (job : Job) where
     )
 
     goes_so : LeftBody mode.Goes left a left_trail ls → RightBody mode.Goes right right_start rs → p ≡ Going → Tells job.limits.aborts mode.Goes (as_one x y a t os p) (stamps_in t a.above)
-        → MayJoin job right × StandsGoing job (as_one x y a t os p) (bodies.joined (strands_of_job job) right left) a t whole
+        → MayJoin job right × StandsGoing job (as_one x y a t os p) (bodies.joined_body (strands_of_job job) right left) a t whole
     goes_so (st, over) (now, g, ended, there) phase (on, none) = (
       may_join job right now (begins_in t a.begins) there ended,
       record {
         now = (strands_of_job job).joined now left.state;
         stands = move.meets (strands_of_job job) a.state t cs ls rs b left.state now column stamp st over g ended;
-        there = body_joined job right left (bodies.joined (strands_of_job job) right left) now left.state (begins_in t a.begins) there refl refl;
+        there = body_joined job right left (bodies.joined_body (strands_of_job job) right left) now left.state (begins_in t a.begins) there refl refl;
         free = record { on = on; none = none };
         phase = phase;
       },
     )
 
     -- however both ended, but for a right strand that waits beside a left one at its end
-    pub stands_joined : (m k : Mode) → ((both m k ≡ mode.Stopped → ⊥) → p ≡ Going) → (both m k ≡ mode.Waits → ⊥) → (m ≡ mode.Waits → ⊥) → Leaving m x a left_trail ls → Leaving k y right_start opens rs
-        → LeftBody m left a left_trail ls → RightBody k right right_start rs → StandsBehind job (both m k) (as_one x y a t os p) right left a t whole
+    pub stands_joined : (m k : Mode) → ((mode_of_both m k ≡ mode.Stopped → ⊥) → p ≡ Going) → (mode_of_both m k ≡ mode.Waits → ⊥) → (m ≡ mode.Waits → ⊥) → Leaving m x a left_trail ls → Leaving k y right_start opens rs
+        → LeftBody m left a left_trail ls → RightBody k right right_start rs → StandsBehind job (mode_of_both m k) (as_one x y a t os p) right left a t whole
     stands_joined m k phase some first v w l r = by m k (tells_both job.limits.aborts x y a t os p m k v.tells w.tells) phase some first v w l r where
-      by : (m k : Mode) → Tells job.limits.aborts (both m k) (as_one x y a t os p) (stamps_in t a.above) → ((both m k ≡ mode.Stopped → ⊥) → p ≡ Going) → (both m k ≡ mode.Waits → ⊥) → (m ≡ mode.Waits → ⊥)
-          → Leaving m x a left_trail ls → Leaving k y right_start opens rs → LeftBody m left a left_trail ls → RightBody k right right_start rs → StandsBehind job (both m k) (as_one x y a t os p) right left a t whole
+      by : (m k : Mode) → Tells job.limits.aborts (mode_of_both m k) (as_one x y a t os p) (stamps_in t a.above) → ((mode_of_both m k ≡ mode.Stopped → ⊥) → p ≡ Going) → (mode_of_both m k ≡ mode.Waits → ⊥) → (m ≡ mode.Waits → ⊥)
+          → Leaving m x a left_trail ls → Leaving k y right_start opens rs → LeftBody m left a left_trail ls → RightBody k right right_start rs → StandsBehind job (mode_of_both m k) (as_one x y a t os p) right left a t whole
       by mode.Goes mode.Goes told phase some first v w l r = goes_so l r (phase goes_on) told
       by mode.Goes (mode.Dies to) told phase some first v w l r = dies_so to mode.Goes (mode.Dies to) v w r (phase (dies_on to)) told
       by mode.Goes mode.Stopped told phase some first v w l r = stops_so mode.Goes mode.Stopped v w told

@@ -20,7 +20,7 @@ use Rattle.cw_pool.specs.declared.task.Below.{Below}
 use Rattle.cw_pool.specs.declared.task.Below.TheVariants as below
 use Rattle.cw_pool.specs.declared.task.Base.{Base}
 use Rattle.cw_pool.specs.declared.task.Base.TheVariants as base
-use Rattle.cw_pool.specs.Ends.{IsBehind, IsMerged, IsToMerge, MayEnd, both}
+use Rattle.cw_pool.specs.Ends.{IsBehind, IsMerged, IsToMerge, MayEnd, mode_of_both}
 use Rattle.cw_pool.specs.Tasks.{Start, IsRun, IsBase, IsRunning, opened, stamps_in}
 use Rattle.cw_pool.proofs.Tasks.Finishing.{Finished, Leaves, at_bottom, finished, not_waiting}
 use Rattle.cw_pool.proofs.Tasks.Behind.{behind_whole}
@@ -35,13 +35,13 @@ waiting_not_parted n e = cc
 waits_on : mode.Waits ≡ mode.Stopped → ⊥
 waits_on e = cc
 
-both_waits : (m : Mode) → (m ≡ mode.Goes → ⊥) → both m mode.Waits ≡ m
+both_waits : (m : Mode) → (m ≡ mode.Goes → ⊥) → mode_of_both m mode.Waits ≡ m
 both_waits mode.Goes n = absurd (n refl)
 both_waits (mode.Dies to) n = refl
 both_waits mode.Stopped n = refl
 both_waits mode.Waits n = refl
 
-both_not_waits : (m k : Mode) → (m ≡ mode.Waits → ⊥) → (k ≡ mode.Waits → ⊥) → both m k ≡ mode.Waits → ⊥
+both_not_waits : (m k : Mode) → (m ≡ mode.Waits → ⊥) → (k ≡ mode.Waits → ⊥) → mode_of_both m k ≡ mode.Waits → ⊥
 both_not_waits mode.Goes k p q e = q e
 both_not_waits (mode.Dies to) mode.Goes p q e = cc
 both_not_waits (mode.Dies to) (mode.Dies other) p q e = cc
@@ -51,9 +51,9 @@ both_not_waits mode.Stopped k p q e = cc
 both_not_waits mode.Waits k p q e = p refl
 
 -- where the strand that forked is not stopped, its right strand was not
-right_not_stopped : (m k : Mode) → (both m k ≡ mode.Stopped → ⊥) → k ≡ mode.Stopped → ⊥
+right_not_stopped : (m k : Mode) → (mode_of_both m k ≡ mode.Stopped → ⊥) → k ≡ mode.Stopped → ⊥
 right_not_stopped mode.Goes k n e = n e
-right_not_stopped (mode.Dies to) k n e = n (ap (λ (q : Mode). both (mode.Dies to) q) e)
+right_not_stopped (mode.Dies to) k n e = n (ap (λ (q : Mode). mode_of_both (mode.Dies to) q) e)
 right_not_stopped mode.Stopped k n e = n refl
 right_not_stopped mode.Waits k n e = n e
 
@@ -77,7 +77,7 @@ module _ (job : Job) where
 
 module _ {T J : Type 0} (job : Job) (of : T → Token) where
   -- where the lowest log of a task comes from is as before, however the right strand ended
-  base_both : (b : Base T J) (m k : Mode) (a : Start) → (m ≡ mode.Waits → ⊥) → (both m k ≡ mode.Waits → ⊥) → IsBase job of b m a → IsBase job of b (both m k) a
+  base_both : (b : Base T J) (m k : Mode) (a : Start) → (m ≡ mode.Waits → ⊥) → (mode_of_both m k ≡ mode.Waits → ⊥) → IsBase job of b m a → IsBase job of b (mode_of_both m k) a
   base_both base.Root m k a n o i = i
   base_both (base.Right g half) mode.Goes mode.Goes a n o i = i
   base_both (base.Right g half) mode.Goes (mode.Dies to) a n o i = i
@@ -94,14 +94,14 @@ module _ {T J : Type 0} (job : Job) (of : T → Token) where
 
   -- the strand that forked, with what both leave
   joined_behind : (x y u : Token) (m k : Mode) (left right : InBlocks) (n : ℕ) (half : Note (Memo T)) (bs : List (Below T J)) (b : Base T J) (f : Finished job of x left m (bs ++ below.Left n half ∷ []) b) (rs : Course) (p : Phase)
-      → (m ≡ mode.Waits → ⊥) → (both m k ≡ mode.Waits → ⊥) → RightLeaves job k y right (right_begins job of (left_of job of x left m bs b n half f)) rs
-      → ((both m k ≡ mode.Stopped → ⊥) → p ≡ Going) → u ≡ as_one x y f.start (left_of job of x left m bs b n half f).outer (left_of job of x left m bs b n half f).others p
-      → IsBehind job of (both m k) u right left bs b
+      → (m ≡ mode.Waits → ⊥) → (mode_of_both m k ≡ mode.Waits → ⊥) → RightLeaves job k y right (right_begins job of (left_of job of x left m bs b n half f)) rs
+      → ((mode_of_both m k ≡ mode.Stopped → ⊥) → p ≡ Going) → u ≡ as_one x y f.start (left_of job of x left m bs b n half f).outer (left_of job of x left m bs b n half f).others p
+      → IsBehind job of (mode_of_both m k) u right left bs b
   joined_behind x y u m k left right n half bs b f rs p first some w phase e =
       let i = left_of job of x left m bs b n half f in
       let v = left_leaves job m x left f.start _ f.course (subst (λ (t : Trail StrandState). Leaves job x left m f.start t f.course) i.trail f.leaves) in
-      subst (λ (z : Token). IsBehind job of (both m k) z right left bs b) (sym e)
-      (behind_whole job of (both m k) (as_one x y f.start i.outer i.others p) right left bs b f.run f.lowest (base_both b m k f.lowest first some f.based) f.start i.outer
+      subst (λ (z : Token). IsBehind job of (mode_of_both m k) z right left bs b) (sym e)
+      (behind_whole job of (mode_of_both m k) (as_one x y f.start i.outer i.others p) right left bs b f.run f.lowest (base_both b m k f.lowest first some f.based) f.start i.outer
       (fork i.behind (Some i.column) i.stamp f.course rs) f.reached
       (fits_joined job x y left right f.start i.outer i.behind f.course rs i.at i.column i.stamp n i.others p m k v w) i.under
       (stands_joined job x y left right f.start i.outer i.behind f.course rs i.at i.column i.stamp n i.others p m k phase some first v.leaving w.leaving v.stands w.stands))
@@ -154,15 +154,15 @@ module _ {T J : Type 0} (job : Job) (of : T → Token) where
 
   -- unless a strand was stopped what the split parted is merged
   meets_merge : (x y z : Token) (m k : Mode) (left right : InBlocks) (n g : ℕ) (half theirs : Note (Memo T)) (bs : List (Below T J)) (b : Base T J) → IsRunning job of x left m (bs ++ below.Left n half ∷ []) b → MayEnd m x left
-      → IsRunning {T = T} {J = J} job of y right k [] (base.Right g theirs) → MayEnd k y right → half.of ≡ theirs.of → z ≡ taken_in x y → IsToMerge job.limits.aborts (both m k) z n
+      → IsRunning {T = T} {J = J} job of y right k [] (base.Right g theirs) → MayEnd k y right → half.of ≡ theirs.of → z ≡ taken_in x y → IsToMerge job.limits.aborts (mode_of_both m k) z n
   meets_merge x y z m k left right n g half theirs bs b r may r2 may2 same e =
       let q = met x y m k left right n g half theirs bs b r may r2 may2 same in
       let f = q.ended in
       let i = left_of job of x left m bs b n half f in
       let v = left_leaves job m x left f.start _ f.course (subst (λ (t : Trail StrandState). Leaves job x left m f.start t f.course) i.trail f.leaves) in
-      subst (λ (w : Token). IsToMerge job.limits.aborts (both m k) w n) (sym (joined_there x y z f.start i.outer i.others n i.forks e))
-      (to_merge (both m k) (as_one x y f.start i.outer i.others (phase_behind y))
-      (λ s. is_on job.limits.aborts (both m k) (as_one x y f.start i.outer i.others (phase_behind y)) (stamps_in i.outer f.start.above) s
+      subst (λ (w : Token). IsToMerge job.limits.aborts (mode_of_both m k) w n) (sym (joined_there x y z f.start i.outer i.others n i.forks e))
+      (to_merge (mode_of_both m k) (as_one x y f.start i.outer i.others (phase_behind y))
+      (λ s. is_on job.limits.aborts (mode_of_both m k) (as_one x y f.start i.outer i.others (phase_behind y)) (stamps_in i.outer f.start.above) s
       (tells_both job.limits.aborts x y f.start i.outer i.others (phase_behind y) m k v.leaving.tells q.leaves.leaving.tells))
       (λ s. parted_split y (q.split (right_not_stopped m k s)) ∙ ap (λ (j : ℕ). Parted j) q.number)) where
         to_merge : (how : Mode) (w : Token) → ((how ≡ mode.Stopped → ⊥) → IsOn job.limits.aborts w) → ((how ≡ mode.Stopped → ⊥) → w.phase ≡ Parted n) → IsToMerge job.limits.aborts how w n
@@ -172,12 +172,12 @@ module _ {T J : Type 0} (job : Job) (of : T → Token) where
         to_merge mode.Waits w on there = (on waits_on, there waits_on)
 
   meets_behind : (x y z u : Token) (m k : Mode) (left right : InBlocks) (n g : ℕ) (half theirs : Note (Memo T)) (bs : List (Below T J)) (b : Base T J) → IsRunning job of x left m (bs ++ below.Left n half ∷ []) b → MayEnd m x left
-      → IsRunning {T = T} {J = J} job of y right k [] (base.Right g theirs) → MayEnd k y right → half.of ≡ theirs.of → z ≡ taken_in x y → IsMerged (both m k) z u → IsBehind job of (both m k) u right left bs b
+      → IsRunning {T = T} {J = J} job of y right k [] (base.Right g theirs) → MayEnd k y right → half.of ≡ theirs.of → z ≡ taken_in x y → IsMerged (mode_of_both m k) z u → IsBehind job of (mode_of_both m k) u right left bs b
   meets_behind x y z u m k left right n g half theirs bs b r may r2 may2 same e merged_so =
       let q = met x y m k left right n g half theirs bs b r may r2 may2 same in
       let f = q.ended in
       let i = left_of job of x left m bs b n half f in
-      let (p, u_is, phase) = merged_there (both m k) f.start i.outer i.others (joined_there x y z f.start i.outer i.others n i.forks e) merged_so in
+      let (p, u_is, phase) = merged_there (mode_of_both m k) f.start i.outer i.others (joined_there x y z f.start i.outer i.others n i.forks e) merged_so in
       joined_behind x y u m k left right n half bs b f q.course p q.first (both_not_waits m k q.first q.second) q.leaves phase u_is where
         merged_there : (how : Mode) (a : Start) (t : Trail StrandState) (os : List Open) → z ≡ as_one x y a t os (phase_behind y) → IsMerged how z u → (p : Phase) × (u ≡ as_one x y a t os p) × ((how ≡ mode.Stopped → ⊥) → p ≡ Going)
         merged_there mode.Goes a t os d h = (Going, h ∙ ap (λ w. merged w) d, λ s. refl)
@@ -196,14 +196,14 @@ module _ {T J : Type 0} (job : Job) (of : T → Token) where
       let s = alone y right k rest (base.Right g theirs) e r2 in
       (meets_fork x y m k left right n g half theirs bs b r may s may2 same, meets_done x y m k left right n g half theirs bs b r may s may2 same)
 
-  pub met_merge : (x y z : Token) (m k how : Mode) (left right : InBlocks) (n g : ℕ) (half theirs : Note (Memo T)) (bs rest : List (Below T J)) (b : Base T J) → how ≡ both m k → rest ≡ []
+  pub met_merge : (x y z : Token) (m k how : Mode) (left right : InBlocks) (n g : ℕ) (half theirs : Note (Memo T)) (bs rest : List (Below T J)) (b : Base T J) → how ≡ mode_of_both m k → rest ≡ []
       → IsRunning job of x left m (bs ++ below.Left n half ∷ []) b → MayEnd m x left → IsRunning job of y right k rest (base.Right g theirs) → MayEnd k y right → half.of ≡ theirs.of → z ≡ taken_in x y
       → IsToMerge job.limits.aborts how z n
   met_merge x y z m k how left right n g half theirs bs rest b is e r may r2 may2 same joined_so =
       subst (λ (q : Mode). IsToMerge job.limits.aborts q z n) (sym is)
       (meets_merge x y z m k left right n g half theirs bs b r may (alone y right k rest (base.Right g theirs) e r2) may2 same joined_so)
 
-  pub met_behind : (x y z u : Token) (m k how : Mode) (left right : InBlocks) (n g : ℕ) (half theirs : Note (Memo T)) (bs rest : List (Below T J)) (b : Base T J) → how ≡ both m k → rest ≡ []
+  pub met_behind : (x y z u : Token) (m k how : Mode) (left right : InBlocks) (n g : ℕ) (half theirs : Note (Memo T)) (bs rest : List (Below T J)) (b : Base T J) → how ≡ mode_of_both m k → rest ≡ []
       → IsRunning job of x left m (bs ++ below.Left n half ∷ []) b → MayEnd m x left → IsRunning job of y right k rest (base.Right g theirs) → MayEnd k y right → half.of ≡ theirs.of → z ≡ taken_in x y
       → IsMerged how z u → IsBehind job of how u right left bs b
   met_behind x y z u m k how left right n g half theirs bs rest b is e r may r2 may2 same joined_so merged_so =

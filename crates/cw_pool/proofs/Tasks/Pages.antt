@@ -6,7 +6,7 @@ use Rattle.cw_tree.specs.declared.node.Kind.TheVariants.{Strand, Fork, Block}
 use Rattle.cw_tree.specs.Nodes.{fresh_node}
 use Rattle.cw_tree.proofs.NextNodes.Growing.{get_next}
 use Rattle.cw_course.specs.Courses.{Course, size}
-use Rattle.cw_course.specs.Trails.{Trail, opens, in_block, in_left, in_right, page, place_of, nodes_of, strand_in, strands_with, forked}
+use Rattle.cw_course.specs.Trails.{Trail, opens, in_block, in_left, in_right, page, place_of, nodes_of, strand_in, strands_with, forked_page}
 use Rattle.cw_course.proofs.Trails.Steps.{behind_many}
 use Rattle.cw_pool.specs.Blocks.{begin_at}
 
@@ -29,7 +29,7 @@ module _ {A : Type 0} where
   strand_low (in_block t cs b stamp) = omega (arith, strand_low t, many_in_block t cs b stamp)
   strand_low (in_left t cs b None stamp) = omega (arith, many t cs, many_inline t cs b stamp)
   strand_low (in_left t cs b (Some column) stamp) = omega (arith, many t cs, many_in_left t cs b column stamp)
-  strand_low (in_right t cs b stamp ls l) = omega (arith, many t cs, many_inline t cs b stamp, behind_many (forked (page t) cs None stamp) ls)
+  strand_low (in_right t cs b stamp ls l) = omega (arith, many t cs, many_inline t cs b stamp, behind_many (forked_page (page t) cs None stamp) ls)
 
   -- the place of a strand in a block is not the strand
   pub in_some_block : (t : Trail A) (cs : Course) (b : A) (stamp : ℕ) → place_of (in_block t cs b stamp) ≡ strand_in t → ⊥

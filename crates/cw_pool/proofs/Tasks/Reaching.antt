@@ -11,7 +11,7 @@ use Rattle.cw_job.proofs.Room.Elements.{NamesThere, wants_there}
 use Rattle.cw_job.proofs.Room.Lawful.{closes_of}
 use Rattle.cw_strand.specs.Names.{first_memory}
 use Rattle.cw_course.specs.Courses.{Course, Goes}
-use Rattle.cw_course.specs.Trails.{Trail, opens, in_block, in_left, in_right, entry, Leads, Stands}
+use Rattle.cw_course.specs.Trails.{Trail, opens, in_block, in_left, in_right, state_at_entry, Leads, Stands}
 use Rattle.cw_course.proofs.Courses.Reaching.{further, goes_to}
 use Rattle.cw_pool.specs.Tasks.{IsRun, IsReached}
 
@@ -38,27 +38,27 @@ module _ {A : Type 0} (s : Strands A) where
   begun n outer a e r = subst (λ (own : List ℕ). Reached s own (s.answer a Nothing)) (ap (λ w. own_after w (n ∷ outer)) e)
       (reached_on r (answered stays Nothing (subst (λ (w : Want). IsAnswer s.elements w Nothing) (sym e) tt)))
 
-  pub reached_entry : (a : A) (t : Trail A) → IsReached s a → Leads s a t → ReachedAt t (entry s a t)
+  pub reached_entry : (a : A) (t : Trail A) → IsReached s a → Leads s a t → ReachedAt t (state_at_entry s a t)
   reached_entry a opens r l = r
   reached_entry a (in_block t cs b stamp) r (l, g, e) =
-      let (outer, h) = along t cs (entry s a t) b (reached_entry a t r l) g in
+      let (outer, h) = along t cs (state_at_entry s a t) b (reached_entry a t r l) g in
       (outer, begun (blocks_in t) outer b e h)
   reached_entry a (in_left t cs b column stamp) r (l, g, e) =
-      let (outer, h) = along t cs (entry s a t) b (reached_entry a t r l) g in
+      let (outer, h) = along t cs (state_at_entry s a t) b (reached_entry a t r l) g in
       ([], of_left h e stays)
   reached_entry a (in_right t cs b stamp ls d) r (l, g, e, k, o) =
-      let (outer, h) = along t cs (entry s a t) b (reached_entry a t r l) g in
+      let (outer, h) = along t cs (state_at_entry s a t) b (reached_entry a t r l) g in
       (blocks_in t ∷ outer, of_right h e stays)
 
   pub reached_now : (a : A) (t : Trail A) (cs : Course) (now : A) → IsReached s a → Stands s a t cs now → ReachedAt t now
-  reached_now a t cs now r st = along t cs (entry s a t) now (reached_entry a t r st.leads) st.goes
+  reached_now a t cs now r st = along t cs (state_at_entry s a t) now (reached_entry a t r st.leads) st.goes
 
   pub reached_right : (t : Trail A) (b : A) → ReachedAt t b → s.want b ≡ want.Fork → IsReached s (s.right b)
   reached_right t b (outer, r) e = (blocks_in t ∷ outer, of_right r e stays)
 
   -- the right strand of a fork that is open
   pub reached_fork : (a : A) (t : Trail A) (cs : Course) (b : A) (column : Option ℕ) (stamp : ℕ) → IsReached s a → Leads s a (in_left t cs b column stamp) → IsReached s (s.right b)
-  reached_fork a t cs b column stamp r (l, g, e) = reached_right t b (along t cs (entry s a t) b (reached_entry a t r l) g) e
+  reached_fork a t cs b column stamp r (l, g, e) = reached_right t b (along t cs (state_at_entry s a t) b (reached_entry a t r l) g) e
 
 module _ (job : Job) (run : IsRun job) where
   abbrev s : Strands StrandState

@@ -1,5 +1,5 @@
 -- A strand whose access is refused.
-use Rattle.std.proofs.Common.{◌≡◌, ℕ, ℤ, zero, suc, inl, inr, List, [], ◌∷◌, length, ap, sym, ◌∙◌, refl, subst, arith, Option, None, Some, length-append, map}
+use Rattle.std.proofs.Common.{◌≡◌, ℕ, ℤ, zero, suc, inl, inr, List, [], ◌∷◌, length, ap, sym, ◌∙◌, refl, subst, arith, Option, None, Some, map}
 use Rattle.std.specs.Prelude.{◌≤◌, ◌<◌}
 use Rattle.cw_strand.specs.declared.want.Given.{Given}
 use Rattle.std.specs.List.{Contains}
@@ -11,11 +11,10 @@ use Rattle.cw_strand.specs.declared.want.Want.{Want}
 use Rattle.cw_tree.specs.declared.conflict.Conflict.{Conflict}
 use Rattle.cw_tree.specs.declared.node.Kind.TheVariants.{Tried}
 use Rattle.cw_tree.specs.declared.closed.Halt.TheVariants.{Budget, Memory}
-use Rattle.cw_tree.specs.Nodes.{fresh_node}
 use Rattle.cw_record.specs.Replay.{IsAccessOf}
 use Rattle.cw_log.specs.declared.token.Token.{Token}
-use Rattle.cw_log.specs.Answers.{IsAround, IsWritten, access_kind}
-use Rattle.cw_log.specs.Tokens.{Fells, made, IsOn, MayHalt, conflicts_in, logs, halted, refused}
+use Rattle.cw_log.specs.Answers.{IsAround, IsWritten, kind_of_answer}
+use Rattle.cw_log.specs.Tokens.{Fells, made, IsOn, conflicts_in, logs, halted, refused}
 use Rattle.cw_course.specs.Courses.{Course, Acts, act}
 use Rattle.cw_course.specs.Trails.{Trail, Stands, page, strand_in}
 use Rattle.cw_course.proofs.Trails.Moves as move
@@ -52,16 +51,6 @@ none_at_zero (b ∷ bs) (some, f, more) (suc k, r, e) = none_at_zero bs more (k,
 may_fell : (x : Token) (k : Conflict) → AreFalling x.around → IsAround x k.victim → MayFell x k
 may_fell x k f (inl z) = (λ n. absurd (n z), λ e h. none_at_zero x.around f (subst (λ (b : ℕ). Contains x.around b) e h))
 may_fell x k f (inr h) = (λ n. h, λ e i. none_at_zero x.around f (subst (λ (b : ℕ). Contains x.around b) e i))
-
--- where it was the last attempt it may halt so
-pub may_halt : (job : Job) (x : Token) (k : Conflict) → IsFree job x → k.asker ≡ length x.own.nodes → k.attempt ≡ job.limits.aborts
-    → MayHalt job.limits.aborts x (Budget 0) → MayHalt job.limits.aborts (refused x k) (Budget 0)
-may_halt job x k f a e m = record {
-  stop = m.stop;
-  told = m.told;
-  phase = m.phase;
-  spent = record { earlier = x.own.conflicts; last = k; conflicts = refl; newest = omega (arith, a, length-append x.own.nodes (fresh_node x.place (Tried k.cell) 0 ∷ [])); attempt = e };
-}
 
 pub seen_here : (bs : List PendingBegin) → map (seen_in 0) bs ≡ bs
 seen_here [] = refl
@@ -122,7 +111,7 @@ cell_named n cell None h = h
 cell_named n cell (Some v) h = h
 
 is_made : (job : Job) (cell : ℕ) (write : Option ℤ) (v : ℤ) (a : StrandState) → IsWritten write v → (strands_of_job job).want a ≡ access_want cell write
-    → Acts (strands_of_job job) a (access_kind cell write v) ((strands_of_job job).answer a (given_for write v))
+    → Acts (strands_of_job job) a (kind_of_answer cell write v) ((strands_of_job job).answer a (given_for write v))
 is_made job cell None v a w e = (e, refl)
 is_made job cell (Some n) v a w e = (e ∙ ap (λ m. want.Store cell m) (sym w), refl)
 
@@ -179,17 +168,17 @@ module _ {T J : Type 0} (job : Job) (of : T → Token) where
 
   -- or made
   pub made_so : (x z : Token) (how : Mode) (body next : InBlocks) (bs : List (Below T J)) (b : Base T J) (cell : ℕ) (write : Option ℤ) (v : ℤ) (stamp : ℕ) (given : Given) → how ≡ mode.Goes
-      → IsRunning job of x body how bs b → (strands_of_job job).want body.state ≡ access_want cell write → IsWritten write v → z ≡ made x (access_kind cell write v) stamp
+      → IsRunning job of x body how bs b → (strands_of_job job).want body.state ≡ access_want cell write → IsWritten write v → z ≡ made x (kind_of_answer cell write v) stamp
       → given ≡ given_for write v → next ≡ answered (strands_of_job job) given body → IsRunning job of z next how bs b
   made_so x z how body next bs b cell write v stamp given is r e w made_now g f =
-      acts job of x z how body next bs b (access_kind cell write v) stamp (given_for write v) is r (is_made job cell write v body.state w e) made_now
+      acts job of x z how body next bs b (kind_of_answer cell write v) stamp (given_for write v) is r (is_made job cell write v body.state w e) made_now
       (f ∙ ap (λ y. answered (strands_of_job job) y body) g)
 
   pub made_last : (x z u : Token) (how : Mode) (body next : InBlocks) (bs : List (Below T J)) (b : Base T J) (cell : ℕ) (write : Option ℤ) (v : ℤ) (stamp : ℕ) → how ≡ mode.Goes
-      → IsRunning job of x body how bs b → (strands_of_job job).want body.state ≡ access_want cell write → IsWritten write v → z ≡ made x (access_kind cell write v) stamp
+      → IsRunning job of x body how bs b → (strands_of_job job).want body.state ≡ access_want cell write → IsWritten write v → z ≡ made x (kind_of_answer cell write v) stamp
       → u ≡ halted z Memory → IsRunning job of u next mode.Stopped bs b
   made_last x z u how body next bs b cell write v stamp is r e w made_now halted_so =
-      acts_last job of x z u how body next bs b (access_kind cell write v) stamp (given_for write v) is r (is_made job cell write v body.state w e) made_now halted_so
+      acts_last job of x z u how body next bs b (kind_of_answer cell write v) stamp (given_for write v) is r (is_made job cell write v body.state w e) made_now halted_so
 
 pub answers_act : (elements cell : ℕ) (write : Option ℤ) (v : ℤ) → AnswersAct elements (access_want cell write) (given_for write v)
 answers_act elements cell None v = tt

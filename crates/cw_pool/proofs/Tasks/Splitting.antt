@@ -16,7 +16,7 @@ use Rattle.cw_pool.specs.declared.task.Below.{Below}
 use Rattle.cw_pool.specs.declared.task.Base.{Base}
 use Rattle.cw_pool.specs.declared.task.Base.TheVariants as base
 use Rattle.cw_pool.specs.Tasks as waiting
-use Rattle.cw_pool.specs.Tasks.{Start, Fits, AreBelow, IsRunning, goes_in}
+use Rattle.cw_pool.specs.Tasks.{Start, Fits, AreWaitingBelow, IsRunning, goes_in}
 use Rattle.cw_pool.proofs.Tasks.Finishing.{IsOutside, at_bottom}
 use Rattle.cw_pool.proofs.Tasks.Backing.{waits_alone}
 
@@ -44,7 +44,7 @@ module _ {T J : Type 0} (job : Job) (of : T → Token) where
         course = nothing;
         reached = subst (λ (a : Start). waiting.IsReached (strands_of_job job) a.state) lowest_so r.reached;
         written = fits_split x r.lowest opens nothing fits;
-        below = subst (λ (os : List Open). AreBelow {T = T} {J = J} job of (once_begun r.lowest) (once_begun r.lowest) opens os []) (sym none) waiting.bottom;
+        below = subst (λ (os : List Open). AreWaitingBelow {T = T} {J = J} job of (once_begun r.lowest) (once_begun r.lowest) opens os []) (sym none) waiting.bottom;
         stands = record {
           now = r.lowest.state;
           stands = record { leads = tt; goes = starts };

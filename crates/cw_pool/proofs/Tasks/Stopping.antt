@@ -19,7 +19,7 @@ use Rattle.cw_pool.specs.declared.task.Mode.{Mode}
 use Rattle.cw_pool.specs.declared.task.Mode.TheVariants as mode
 use Rattle.cw_pool.specs.declared.task.Below.{Below}
 use Rattle.cw_pool.specs.declared.task.Base.{Base}
-use Rattle.cw_pool.specs.Tasks.{Start, Fits, HasFault, StandsSo, StandsWaiting, IsRunning}
+use Rattle.cw_pool.specs.Tasks.{Start, Fits, HasFault, StandsInMode, StandsWaiting, IsRunning}
 use Rattle.cw_pool.proofs.Tasks.Going.{rebuilt, base_stops, fits_told, fits_halted}
 
 off : (b : Bool) → (b || true) ≡ true
@@ -78,13 +78,13 @@ module _ (job : Job) where
       (subst (λ (ds : Course). Stopped (strands_of_job job) a.state opens ds) (sym s.course) (record { leads = tt; stops = there starts }))
 
   -- however it stood, it is stopped there
-  pub stopped : (how : Mode) (x : Token) (body : InBlocks) (a : Start) (t : Trail StrandState) (cs : Course) → StandsSo job how x body a t cs → Stopped (strands_of_job job) a.state t cs
+  pub stopped : (how : Mode) (x : Token) (body : InBlocks) (a : Start) (t : Trail StrandState) (cs : Course) → StandsInMode job how x body a t cs → Stopped (strands_of_job job) a.state t cs
   stopped mode.Goes x body a t cs s = move.gives_up (strands_of_job job) a.state t cs s.now s.stands
   stopped (mode.Dies to) x body a t cs s = s.stopped
   stopped mode.Stopped x body a t cs s = s.stopped
   stopped mode.Waits x body a t cs s = waits_stopped x body a t cs s
 
-  fault_there : (how : Mode) (x : Token) (body : InBlocks) (a : Start) (t : Trail StrandState) (cs : Course) → StandsSo job how x body a t cs → HasFault x.stop cs a.column (strand_in t) (length (page t).nodes)
+  fault_there : (how : Mode) (x : Token) (body : InBlocks) (a : Start) (t : Trail StrandState) (cs : Course) → StandsInMode job how x body a t cs → HasFault x.stop cs a.column (strand_in t) (length (page t).nodes)
   fault_there mode.Goes x body a t cs s = no_fault x.stop cs _ _ _ s.free.on.stop
   fault_there (mode.Dies to) x body a t cs s = no_fault x.stop cs _ _ _ s.on.stop
   fault_there mode.Stopped x body a t cs s = s.fault
@@ -99,11 +99,6 @@ module _ {T J : Type 0} (job : Job) (of : T → Token) where
       (rebuilt job of x (was_told x true) body body how mode.Stopped bs b r r.course (base_stops job of b how r.lowest r.based)
       (fits_told x r.start r.trail r.course true r.written) refl
       (record { stopped = stopped job how x body r.start r.trail r.course r.stands; off = inr (off x.told); fault = fault_there job how x body r.start r.trail r.course r.stands }))
-
-  -- or was not
-  pub is_not_told : (x z : Token) (how : Mode) (body : InBlocks) (bs : List (Below T J)) (b : Base T J) → IsRunning job of x body how bs b → z ≡ was_told x false
-      → IsRunning job of z body how bs b
-  is_not_told x z how body bs b r e = subst (λ (w : Token). IsRunning job of w body how bs b) (sym (e ∙ ap (λ (c : Bool). record x { told = c }) (same x.told))) r
 
   -- a halt of its own, which is no fault
   pub is_halted : (x z : Token) (how : Mode) (body next : InBlocks) (bs : List (Below T J)) (b : Base T J) (r : IsRunning job of x body how bs b) (cs : Course) (h : Halt)

@@ -18,7 +18,7 @@ use Rattle.cw_pool.specs.declared.task.Below.TheVariants as below
 use Rattle.cw_pool.specs.declared.task.Base.{Base}
 use Rattle.cw_pool.specs.Ends.{IsBehind, MayEnd}
 use Rattle.cw_pool.specs.Tasks as waiting
-use Rattle.cw_pool.specs.Tasks.{Start, IsTaken, AreFalling, AreBelow, IsRunning, stamps_in, beside, opened}
+use Rattle.cw_pool.specs.Tasks.{Start, IsTaken, AreFalling, AreWaitingBelow, IsRunning, stamps_in, beside, opened}
 use Rattle.cw_pool.proofs.Tasks.Stopping.{no_fault}
 use Rattle.cw_pool.proofs.Tasks.Finishing.{IsOutside, Leaves, Finished, finished, not_waiting}
 use Rattle.cw_pool.proofs.Tasks.Behind.{behind_whole}
@@ -65,9 +65,9 @@ module _ {T J : Type 0} (job : Job) (of : T → Token) where
     pub trail : t ≡ opens
     pub none : os ≡ []
     pub right : a ≡ beside (strands_of_job job) start outer behind at column number
-    pub under : AreBelow job of lowest start outer others rest
+    pub under : AreWaitingBelow job of lowest start outer others rest
 
-  taken_top : {lowest a : Start} {t : Trail StrandState} {os : List Open} {tok : T} {left : InBlocks} {rest : List (Below T J)} → IsOutside t → AreBelow job of lowest a t os (below.Taken tok left ∷ rest)
+  taken_top : {lowest a : Start} {t : Trail StrandState} {os : List Open} {tok : T} {left : InBlocks} {rest : List (Below T J)} → IsOutside t → AreWaitingBelow job of lowest a t os (below.Taken tok left ∷ rest)
       → TakenTop lowest a t os tok left rest
   taken_top o (waiting.block h) = absurd o
   taken_top o (waiting.taken {a = a} {t = u} {os = os} {cs = cs} {ls = ls} {b = b} {column = column} {stamp = stamp} {fork = n} k e r h) =

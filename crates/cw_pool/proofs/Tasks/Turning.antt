@@ -4,7 +4,7 @@ use Rattle.std.specs.Prelude.{IsTrue, ◌≤◌}
 use Rattle.std.specs.List.{All, Contains}
 use Rattle.cw_code.specs.declared.FaultKind.{FaultKind}
 use Rattle.cw_strand.specs.Strands.{is_over}
-use Rattle.cw_job.specs.Jobs.{Job, bare as bare_job}
+use Rattle.cw_job.specs.Jobs.{Job, bare_job}
 use Rattle.cw_job.specs.Room.Strands.{StrandState, strands_of_job}
 use Rattle.cw_job.proofs.Room.Wants.{same_want}
 use Rattle.cw_tree.specs.declared.conflict.Conflict.{Conflict}
@@ -14,7 +14,7 @@ use Rattle.cw_log.specs.declared.token.Token.{Token}
 use Rattle.cw_log.specs.Tokens.{Fells, IsDone, IsInline, conflicts_in, logs, turned, turned_by}
 use Rattle.cw_course.specs.Courses.{Course, nothing, fork, rights, size, there, starts}
 use Rattle.cw_course.specs.Closings.{FaultsIn}
-use Rattle.cw_course.specs.Trails.{Trail, in_left, in_right, forked, page, nodes_of, place_of, strand_in}
+use Rattle.cw_course.specs.Trails.{Trail, in_left, in_right, forked_page, page, nodes_of, place_of, strand_in}
 use Rattle.cw_course.proofs.Trails.Moves as move
 use Rattle.cw_course.proofs.Trails.Steps as step
 use Rattle.cw_course.proofs.Trails.Steps.{behind_many}
@@ -27,7 +27,7 @@ use Rattle.cw_pool.specs.declared.task.Below.TheVariants as below
 use Rattle.cw_pool.specs.declared.task.Base.{Base}
 use Rattle.cw_pool.specs.Ends.{IsBehind, MayEnd}
 use Rattle.cw_pool.specs.Tasks as waiting
-use Rattle.cw_pool.specs.Tasks.{Start, IsRun, IsFree, IsReached, Fits, StandsGoing, StandsDying, StandsStopped, AreBelow, IsRunning, begins_in, stamps_in, rights_to, rights_of, opened, goes_in}
+use Rattle.cw_pool.specs.Tasks.{Start, IsRun, IsFree, IsReached, Fits, StandsGoing, StandsDying, StandsStopped, AreWaitingBelow, IsRunning, begins_in, stamps_in, rights_to, rights_of, opened, goes_in}
 use Rattle.cw_pool.proofs.Tasks.Reaching.{reached_fork, start_not_end}
 use Rattle.cw_pool.proofs.Tasks.Pages.{many, many_inline}
 use Rattle.cw_pool.proofs.Tasks.Going.{top_first, top_last}
@@ -51,7 +51,7 @@ rights_ended t cs ls rs b l stamp column =
     let hl = rights ls column (n + size cs + 3) in
     let hr = rights rs column (n + size cs + 3 + size ls) in
     let p : length (page (in_left t cs b None stamp)).nodes ≡ n + size cs + 3 = many_inline t cs b stamp in
-    let q : length (page (in_right t cs b stamp ls l)).nodes ≡ n + size cs + 3 + size ls = omega (arith, p, behind_many (forked (page t) cs None stamp) ls) in
+    let q : length (page (in_right t cs b stamp ls l)).nodes ≡ n + size cs + 3 + size ls = omega (arith, p, behind_many (forked_page (page t) cs None stamp) ls) in
     ap (λ (k : ℕ). (rights_to t column ++ (hc ++ rights ls column k)) ++ rights rs column (length (page (in_right t cs b stamp ls l)).nodes)) p
     ∙ ap (λ (k : ℕ). (rights_to t column ++ (hc ++ hl)) ++ rights rs column k) q
     ∙ append_assoc (rights_to t column) (hc ++ hl) hr
@@ -69,9 +69,9 @@ module _ {T J : Type 0} (job : Job) (of : T → Token) where
     pub trail : t ≡ in_left outer behind at None stamp
     pub forks : os ≡ opened (First (length (nodes_of outer behind) + 2)) a outer ∷ others
     pub right_there : right ≡ goes_in job ((strands_of_job job).right at) (map one_fork_more (begins_in outer a.begins))
-    pub under : AreBelow job of lowest a outer others rest
+    pub under : AreWaitingBelow job of lowest a outer others rest
 
-  inline_top : {lowest a : Start} {t : Trail StrandState} {os : List Open} {right : InBlocks} {rest : List (Below T J)} → IsOutside t → AreBelow job of lowest a t os (below.Inline right ∷ rest)
+  inline_top : {lowest a : Start} {t : Trail StrandState} {os : List Open} {right : InBlocks} {rest : List (Below T J)} → IsOutside t → AreWaitingBelow job of lowest a t os (below.Inline right ∷ rest)
       → InlineTop lowest a t os right rest
   inline_top o (waiting.block h) = absurd o
   inline_top o (waiting.first {t = u} {os = os} {cs = cs} {b = b} {stamp = stamp} e h) = record { outer = u; behind = cs; at = b; stamp = stamp; others = os; trail = refl; forks = refl; right_there = e; under = h }
@@ -87,9 +87,9 @@ module _ {T J : Type 0} (job : Job) (of : T → Token) where
     pub trail : t ≡ in_right outer behind at stamp before there
     pub forks : os ≡ opened Second a outer ∷ others
     pub left_there : left.state ≡ there
-    pub under : AreBelow job of lowest a outer others rest
+    pub under : AreWaitingBelow job of lowest a outer others rest
 
-  second_top : {lowest a : Start} {t : Trail StrandState} {os : List Open} {left : InBlocks} {rest : List (Below T J)} → IsOutside t → AreBelow job of lowest a t os (below.Second left ∷ rest)
+  second_top : {lowest a : Start} {t : Trail StrandState} {os : List Open} {left : InBlocks} {rest : List (Below T J)} → IsOutside t → AreWaitingBelow job of lowest a t os (below.Second left ∷ rest)
       → SecondTop lowest a t os left rest
   second_top o (waiting.block h) = absurd o
   second_top o (waiting.second {t = u} {os = os} {cs = cs} {ls = ls} {b = b} {l = l} {stamp = stamp} e h) =
@@ -302,11 +302,11 @@ module _ (job : Job) where
 
   forked_goes : (x : Token) (body left : InBlocks) (a : Start) (t : Trail StrandState) (cs ls rs : Course) (b l : StrandState) (stamp : ℕ) (os : List Open) (s : StandsGoing job x body a (in_right t cs b stamp ls l) rs)
       → IsTrue (is_over ((strands_of_job job).want s.now)) → x.around ≡ stamps_in t a.above → left.state ≡ l
-      → StandsGoing job (behind_it x a t os) (bodies.joined (strands_of_job job) body left) a t (fork cs None stamp ls rs)
+      → StandsGoing job (behind_it x a t os) (bodies.joined_body (strands_of_job job) body left) a t (fork cs None stamp ls rs)
   forked_goes x body left a t cs ls rs b l stamp os s over around is = record {
     now = (strands_of_job job).joined s.now l;
     stands = move.returns (strands_of_job job) a.state t cs ls rs b l s.now stamp s.stands over;
-    there = body_joined job body left (bodies.joined (strands_of_job job) body left) s.now l (begins_in t a.begins) s.there is refl;
+    there = body_joined job body left (bodies.joined_body (strands_of_job job) body left) s.now l (begins_in t a.begins) s.there is refl;
     free = free_there job x (behind_it x a t os) s.free (sym around) refl refl refl;
     phase = s.phase;
   }
@@ -333,7 +333,7 @@ module _ (job : Job) where
       → FaultsIn kind c x rs column (strand_in (in_right t cs b stamp ls l)) (length (page (in_right t cs b stamp ls l)).nodes) → FaultsIn kind c x (fork cs None stamp ls rs) column (strand_in t) (length (page t).nodes)
   right_fault t cs ls rs b l stamp column c x kind f =
       let n = length (page t).nodes + size cs in
-      let q : length (page (in_right t cs b stamp ls l)).nodes ≡ n + 3 + size ls = omega (arith, many_inline t cs b stamp, behind_many (forked (page t) cs None stamp) ls) in
+      let q : length (page (in_right t cs b stamp ls l)).nodes ≡ n + 3 + size ls = omega (arith, many_inline t cs b stamp, behind_many (forked_page (page t) cs None stamp) ls) in
       inr (subst (λ (m : ℕ). FaultsIn kind c x rs column (m + 2) (n + 3 + size ls)) (many t cs)
       (subst (λ (m : ℕ). FaultsIn kind c x rs column (length (nodes_of t cs) + 2) m) q f))
 

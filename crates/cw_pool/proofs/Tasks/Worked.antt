@@ -10,7 +10,7 @@ use Rattle.cw_log.specs.declared.token.Stop.{Stop}
 use Rattle.cw_log.specs.declared.token.Token.{Token}
 use Rattle.cw_log.specs.Tokens.{IsOff, halted, root_token, was_told}
 use Rattle.cw_course.specs.Courses.{Course, Stops, nothing, own_log, starts, there}
-use Rattle.cw_course.specs.Closings.{Ends, bare}
+use Rattle.cw_course.specs.Closings.{Ends, bare_log}
 use Rattle.cw_course.specs.Trails.{Trail, opens}
 use Rattle.cw_body.specs.Bodies.{InBlocks}
 use Rattle.cw_pool.specs.declared.task.Mode.{Mode}
@@ -60,7 +60,7 @@ module _ (job : Job) where
   worked_so : (how : Mode) (x : Token) (body : InBlocks) (cs : Course) → Leaves job x body how (first job) opens cs → IsWorked job x
   worked_so how x body cs v = record {
     course = cs;
-    written = ap (λ (o : Log). o ∷ map bare x.joined) v.own ∙ ap (λ us. own_log cs 0 0 0 ∷ us) v.joined;
+    written = ap (λ (o : Log). o ∷ map bare_log x.joined) v.own ∙ ap (λ us. own_log cs 0 0 0 ∷ us) v.joined;
     did = did_so how x body cs v.ends;
     ends = ends_so how x body cs v.ends;
   }

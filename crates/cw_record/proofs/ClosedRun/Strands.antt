@@ -31,7 +31,8 @@ use Rattle.cw_open.proofs.Refused.GoingBack.{committed_safe, dead_back}
 use Rattle.cw_open.proofs.Runs.Unstopped.{stops_left_out}
 use Rattle.cw_open.proofs.Runs.States.{states}
 use Rattle.cw_tree.specs.Links.{is_child, last_child}
-use Rattle.cw_tree.proofs.NodeKinds.{strand_no_block, fork_no_strand, fork_no_block, pending_block, committed_block}
+use Rattle.cw_tree.proofs.NodeKinds.{fork_no_strand, fork_no_block, pending_block, committed_block}
+use Rattle.cw_open.proofs.Open.Kinds.{finished_shut}
 use Rattle.cw_record.specs.Coherent.{StrandEnded, alone, joined, IsJoined, HasNoOpenFork, Follows}
 use Rattle.cw_record.specs.ClosedRun.{AreStates}
 
@@ -64,18 +65,6 @@ module _ {A : Type 0} (s : Strands A) (asked : List Node → List ℕ → Option
         or_left (is_strand t f && not (has_finished m f) || is_fork t f && not (has m.joined f)) (is_pending t f)
             (or_right (is_strand t f && not (has_finished m f)) (is_fork t f && not (has m.joined f)) (and_from (is_fork t f) (not (has m.joined f)) is (not_from_false (has m.joined f) q))),
       )))
-
-  -- a strand that finished is not open
-  finished_shut : (x : ℕ) → is_strand t x ≡ true → has_finished m x ≡ true → is_open m x ≡ false
-  finished_shut x is done =
-      false_from_ne_true (is_open m x) (λ e.
-      elim (or_cases (is_strand t x && not (has_finished m x) || is_fork t x && not (has m.joined x)) (is_pending t x) e) [
-        | inr q ↦ absurd (cc (pending_block t x q, strand_no_block t x is))
-        | inl q ↦ elim (or_cases (is_strand t x && not (has_finished m x)) (is_fork t x && not (has m.joined x)) q) [
-          | inl y ↦ absurd (cc (done, not-true (has_finished m x) (and_parts (is_strand t x) (not (has_finished m x)) y).1))
-          | inr y ↦ absurd (cc (is, fork_no_strand t x (and_parts (is_fork t x) (not (has m.joined x)) y).0))
-        ]
-      ])
 
   -- a joined fork is not open
   joined_shut : (f : ℕ) → is_fork t f ≡ true → has m.joined f ≡ true → is_open m f ≡ false
@@ -157,7 +146,7 @@ module _ {A : Type 0} (s : Strands A) (asked : List Node → List ℕ → Option
         elim (cases_Bool (is_fork t f)) [
           | inr no_fork ↦ alone over (λ g q. (let same : f ≡ g = cc (e, q) in not_from_false (is_fork t g) (ap (is_fork t) (sym same) ∙ no_fork)))
           | inl fork ↦
-              (let shut = shut_under f some z.0 (ap (is_open m) up ∙ finished_shut x is done) in
+              (let shut = shut_under f some z.0 (ap (is_open m) up ∙ finished_shut m x is done) in
               let higher = well.sound.tree.rooted f some z.0 in
               let lives_there = none_died f (λ y c l.
               let same : parent_of t (parent_of t y) ≡ x = ap (parent_of t) c.parent ∙ up in
@@ -208,7 +197,7 @@ module _ {A : Type 0} (s : Strands A) (asked : List Node → List ℕ → Option
     none_open : (n : ℕ) → n < length t → is_open m n ≡ false
     none_open n low =
         let tree = well.sound.tree in
-        false_from_ne_true (is_open m n) (λ e. absurd (cc (finished_shut 0 tree.root done, open_over m tree well.nested 0 n low (root_ancestor t tree.rooted n low) e)))
+        false_from_ne_true (is_open m n) (λ e. absurd (cc (finished_shut m 0 tree.root done, open_over m tree well.nested 0 n low (root_ancestor t tree.rooted n low) e)))
 
     pub none_pending : NonePending t
     none_pending n low = false_from_ne_true (is_pending t n) (λ e. absurd (cc (none_open n low, pending_open m well.sound.tree well.nested n e)))

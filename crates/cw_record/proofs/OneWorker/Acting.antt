@@ -35,7 +35,7 @@ use Rattle.cw_record.specs.declared.worker.Worker.{Worker}
 use Rattle.cw_record.specs.Drawn.{added, drawn_after, drawn, entry, noted}
 use Rattle.cw_record.specs.Items.{is_act_kind}
 use Rattle.cw_record.specs.Replay.{IsAct}
-use Rattle.cw_record.specs.OneWorker.{Acts, FollowsBlocks, LooksRight, law_of, unstarted, want_of}
+use Rattle.cw_record.specs.OneWorker.{DoesItsWant, FollowsBlocks, LooksRight, law_of_worker, unstarted, want_of_worker}
 use Rattle.cw_record.proofs.OneWorker.AccessesThere.{AccessThere, AccessesThere}
 use Rattle.cw_record.proofs.OneWorker.Building.{open_items}
 use Rattle.cw_record.proofs.OneWorker.Descending.{Crossing, Descends}
@@ -100,8 +100,8 @@ one_kept x u bs all e = by x u.begun all e where
 -- what a want that is done makes of a worker in memory, whose blocks were followed before
 pub record Acted (code followed new : Worker) : Type 0 where
   pub follows : FollowsBlocks code followed
-  pub done : Acts followed new
-  pub strand : (since : List Since) → LooksRight followed since → state_of new.strand ≡ (law_of followed).answer (state_of followed.strand) (answer_to (want_of followed) followed.memory.items since)
+  pub done : DoesItsWant followed new
+  pub strand : (since : List Since) → LooksRight followed since → state_of new.strand ≡ (law_of_worker followed).answer (state_of followed.strand) (answer_to (want_of_worker followed) followed.memory.items since)
 
 module _ (job : Job) (closes : Closes (strands_of_job job)) (there : AccessesThere job) where
   -- after a want, whatever it is
@@ -115,7 +115,7 @@ module _ (job : Job) (closes : Closes (strands_of_job job)) (there : AccessesThe
   }
 
   module _ (code : Worker) (w : Working StrandState) (r : Runs job code w) where
-    is_wanted : (strands_of_job job).want w.strand ≡ want_of code
+    is_wanted : (strands_of_job job).want w.strand ≡ want_of_worker code
     is_wanted = sym (wants_same job code w r)
 
     -- what is drawn, where the want is this one
@@ -256,17 +256,17 @@ module _ (job : Job) (closes : Closes (strands_of_job job)) (there : AccessesThe
     draws_after _ e d = absurd (cc d)
 
   -- the worker in memory after a want
-  pub acts_on : (code followed new : Worker) (w : Working StrandState) → Runs job code w → takes_answer (want_of code) ≡ true → Acted code followed new → Runs job new (after_act (strands_of_job job) w)
+  pub acts_on : (code followed new : Worker) (w : Working StrandState) → Runs job code w → takes_answer (want_of_worker code) ≡ true → Acted code followed new → Runs job new (after_act (strands_of_job job) w)
   acts_on code followed new w r d acted =
-      let x = want_of code in
+      let x = want_of_worker code in
       let undo = followed.undo in
       let e = is_wanted code w r in
       let done : takes_answer ((strands_of_job job).want w.strand) ≡ true = ap takes_answer e ∙ d in
       let R : Want → Type 0 = λ v. Runs job new (after_by v w) in
       let given = answer_to x code.memory.items w.since in
-      let acts_from : Worker → Type 0 = λ v. Acts v new in
-      let made : Acts (record code { undo = undo }) new = subst acts_from acted.follows.same acted.done in
-      let S : Worker → Type 0 = λ v. (since : List Since) → LooksRight v since → state_of new.strand ≡ (law_of v).answer (state_of v.strand) (answer_to (want_of v) v.memory.items since) in
+      let acts_from : Worker → Type 0 = λ v. DoesItsWant v new in
+      let made : DoesItsWant (record code { undo = undo }) new = subst acts_from acted.follows.same acted.done in
+      let S : Worker → Type 0 = λ v. (since : List Since) → LooksRight v since → state_of new.strand ≡ (law_of_worker v).answer (state_of v.strand) (answer_to (want_of_worker v) v.memory.items since) in
       let F : Want → Type 0 = λ v. AreSince undo (memory_after v code.memory.items) (since_after v code.memory.items w.since) in
       let followed_since : F x = acted.follows.blocks.since w.since r.undo in
       let looks : LooksRight (record code { undo = undo }) w.since = λ cancel. subst F cancel followed_since in
@@ -290,18 +290,18 @@ module _ (job : Job) (closes : Closes (strands_of_job job)) (there : AccessesThe
         draws = draws_by (made.drawing w.since looks ∙ ap (λ m. drawn_after x m w.since (drawn code.drawing)) r.memory) made.branches (draws_after code w r x e d);
       })
 
-  pub act_leaves_less : IsDeep (strands_of_job job) → (code followed new : Worker) (w : Working StrandState) → Runs job code w → takes_answer (want_of code) ≡ true → Acted code followed new → left_to_do new < left_to_do code
+  pub act_leaves_less : IsDeep (strands_of_job job) → (code followed new : Worker) (w : Working StrandState) → Runs job code w → takes_answer (want_of_worker code) ≡ true → Acted code followed new → left_to_do new < left_to_do code
   act_leaves_less deep code followed new w r d acted =
       let h = acts_on code followed new w r d acted in
       let s = strands_of_job job in
       let e = is_wanted code w r in
       let given = answer_to (s.want w.strand) w.memory w.since in
-      let now : law_of new ≡ s = law_same job new (after_act s w) h in
-      let was : law_of code ≡ s = law_same job code w r in
+      let now : law_of_worker new ≡ s = law_same job new (after_act s w) h in
+      let was : law_of_worker code ≡ s = law_same job code w r in
       let falls : s.depth (s.answer w.strand given) < s.depth w.strand = deep.answer w.strand given (ap takes_answer e ∙ d) in
       let less = weight_falls _ _ _ falls falls in
-      let acts_from : Worker → Type 0 = λ v. Acts v new in
-      let made : Acts (record code { undo = followed.undo }) new = subst acts_from acted.follows.same acted.done in
+      let acts_from : Worker → Type 0 = λ v. DoesItsWant v new in
+      let made : DoesItsWant (record code { undo = followed.undo }) new = subst acts_from acted.follows.same acted.done in
       let todo : left_to_do new ≡ weight (s.depth (s.answer w.strand given)) + weights s code.branches = (rw (now, h.strand, made.branches) refl) in
       let before : left_to_do code ≡ weight (s.depth w.strand) + weights s code.branches = (rw (was, r.strand) refl) in
       omega arith
@@ -322,8 +322,8 @@ module _ (job : Job) (closes : Closes (strands_of_job job)) (there : AccessesThe
         let K : ℕ → Type 0 = λ b. Keeps code.drawing.tree (first_memory job.program.cells) code.drawing.place cr b w.since in
         first_own code.drawing.tree (first_memory job.program.cells) code.drawing.place cr n code.undo code.memory.items code.undo.begun w.since (subst K is r.draws.since) r.undo r.one_strand
 
-    pub follows_there : takes_answer (want_of code) ≡ true → IsSome (begun_after (want_of code) 0 code.undo)
-    follows_there d = by (want_of code) (is_wanted code w r) d where
+    pub follows_there : takes_answer (want_of_worker code) ≡ true → IsSome (begun_after (want_of_worker code) 0 code.undo)
+    follows_there d = by (want_of_worker code) (is_wanted code w r) d where
       may : (x : Want) → (strands_of_job job).want w.strand ≡ x → MayWant x (own_in w.branches w.blocks)
       may x e = subst (λ (v : Want). MayWant v (own_in w.branches w.blocks)) e (closes _ _ (reached (strands_of_job job) r.work))
 

@@ -14,7 +14,7 @@ use Rattle.cw_tree.proofs.NextNodes.Growing.{get_append, length_more, rooted_mor
 use Rattle.cw_tree.proofs.NextNodes.Closing.{length_closed, same_closed, strand_of_closed}
 use Rattle.cw_record.specs.declared.items.OrderItem.{OrderItem}
 use Rattle.cw_record.specs.Order.{node_of}
-use Rattle.cw_record.specs.Drawn.{added, forked}
+use Rattle.cw_record.specs.Drawn.{added, added_fork}
 use Rattle.cw_record.proofs.OneWorker.Building.{IsBuilt}
 use Rattle.cw_record.proofs.OneWorker.GrowingNames.{name_beside, name_closed, name_placed, name_forked}
 use Rattle.cw_record.proofs.OneWorker.Playing.{SameDoers}
@@ -46,15 +46,15 @@ module _ (t : List Node) (p clock : ℕ) (b : IsBuilt t p clock) where
   pub doers_placed : (kind : Kind) (st : ℕ) → SameDoers t (added t p kind st)
   doers_placed kind st = same_doers t b.rooted (fresh_node p kind st ∷ []) (name_placed t p clock b kind st) (omega (arith, length_more t (fresh_node p kind st)))
 
-  pub doers_forked : (st : ℕ) → SameDoers t (forked t p st)
+  pub doers_forked : (st : ℕ) → SameDoers t (added_fork t p st)
   doers_forked st = record {
     longer = omega (arith, length_more t (fresh_node p Fork st), length_more (added t p Fork st) (fresh_node (length t) Strand 0));
     doers = λ i h.
         (let low : strand_of t (node_of i) ≤ node_of i = strand_of_le t b.rooted (node_of i) h in
-        ap (name_of (forked t p st)) (kept i h) ∙ name_forked t p clock b st (strand_of t (node_of i)) (omega arith));
+        ap (name_of (added_fork t p st)) (kept i h) ∙ name_forked t p clock b st (strand_of t (node_of i)) (omega arith));
     kinds = λ n h. ap (option_map (λ x. x.kind)) (get_append (added t p Fork st) (fresh_node (length t) Strand 0 ∷ []) n (omega (arith, length_more t (fresh_node p Fork st))) ∙ get_append t (fresh_node p Fork st ∷ []) n h);
   } where
-    kept : (i : OrderItem) → node_of i < length t → strand_of (forked t p st) (node_of i) ≡ strand_of t (node_of i)
+    kept : (i : OrderItem) → node_of i < length t → strand_of (added_fork t p st) (node_of i) ≡ strand_of t (node_of i)
     kept i h =
         strand_of_grown (added t p Fork st) (fresh_node (length t) Strand 0 ∷ []) (rooted_more t (fresh_node p Fork st) b.rooted b.there) (node_of i) (omega (arith, length_more t (fresh_node p Fork st)))
         ∙ strand_of_grown t (fresh_node p Fork st ∷ []) b.rooted (node_of i) h

@@ -11,7 +11,7 @@ use Rattle.cw_tree.specs.Names.{name_of}
 use Rattle.cw_job.specs.Jobs.{Job}
 use Rattle.cw_serial.specs.declared.ends.SerialEnd.{SerialEnd}
 use Rattle.cw_serial.specs.declared.ends.SerialEnd.TheVariants as last
-use Rattle.cw_serial.specs.StrandTree.{StrandTree, stands, waits, ended}
+use Rattle.cw_serial.specs.StrandTree.{StrandTree, stands, waits, state_at_end}
 use Rattle.cw_serial.specs.Machine.{Machine, steps_down, machine_shows, has_ended}
 use Rattle.cw_serial.specs.DepthFirst.{leftmost}
 use Rattle.cw_job.specs.Room.Strands.{StrandState, strands_of_job}
@@ -25,7 +25,7 @@ use Rattle.cw_record.proofs.Walked.Named.{strand_turns}
 
 module _ {A : Type 0} (s : Strands A) where
   -- where a strand is still to be picked, the root has not ended
-  not_ended : (t : StrandTree A) (p : List Turn) → leftmost s t ≡ Some p → ended s t ≡ None
+  not_ended : (t : StrandTree A) (p : List Turn) → leftmost s t ≡ Some p → state_at_end s t ≡ None
   not_ended (waits k l r) p e = refl
   not_ended (stands k a) p e = by (is_over (s.want a)) e where
     by : (b : Bool) → cond b None (Some []) ≡ Some p → cond b (Some a) None ≡ None

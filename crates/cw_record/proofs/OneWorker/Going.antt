@@ -23,8 +23,8 @@ use Rattle.cw_record.specs.declared.items.OrderItem.{OrderItem}
 use Rattle.cw_record.specs.declared.worker.Branch.{Branch as Held}
 use Rattle.cw_record.specs.declared.worker.Branch.TheVariants.{Left, Right}
 use Rattle.cw_record.specs.declared.worker.Worker.{Worker}
-use Rattle.cw_record.specs.Drawn.{added, after_fork, after_join, after_start, drawn, forked}
-use Rattle.cw_record.specs.OneWorker.{SwitchesStrand, WaitsOnLeft, law_of, unstarted, want_of}
+use Rattle.cw_record.specs.Drawn.{added, after_fork, after_join, after_start, drawn, added_fork}
+use Rattle.cw_record.specs.OneWorker.{SwitchesStrand, WaitsOnLeft, law_of_worker, unstarted, want_of_worker}
 use Rattle.cw_record.proofs.OneWorker.Building.{IsBuilt, open_items}
 use Rattle.cw_record.proofs.OneWorker.Descending.{Descends, Crossing}
 use Rattle.cw_record.proofs.OneWorker.Doers.{doers_beside, doers_forked}
@@ -98,7 +98,7 @@ module _ (job : Job) where
           since = keeps_forked t at code.drawing.clock r.draws.built (first_memory job.program.cells) (crossings code.branches w.branches) w.blocks w.forks r.draws.place w.since r.draws.since st
               (number_grown (added t at Fork st) (fresh_node (length t) Strand 0 ∷ []) (λ x. x.parent) (length t) (omega (arith, length_more t (fresh_node at Fork st))) ∙ number_new t (fresh_node at Fork st) (λ x. x.parent));
           states = states_fork (strands_of_job job) t at code.drawing.clock r.draws.built code.branches w.strand r.draws.states.0 r.draws.states.1 st f right stands;
-          played = same_played t (forked t at st) (machine_at (strands_of_job job) w) (machine_at (strands_of_job job) (worker_after_fork (strands_of_job job) w)) (open_items t at) _ (doers_forked t at code.drawing.clock r.draws.built st)
+          played = same_played t (added_fork t at st) (machine_at (strands_of_job job) w) (machine_at (strands_of_job job) (worker_after_fork (strands_of_job job) w)) (open_items t at) _ (doers_forked t at code.drawing.clock r.draws.built st)
               (fork_items t at code.drawing.clock r.draws.built st later) (fork_stays (strands_of_job job) closes deep w f) r.draws.played;
         }
 
@@ -110,15 +110,15 @@ module _ (job : Job) where
         → state_of new.strand ≡ (strands_of_job job).left w.strand → state_of right ≡ (strands_of_job job).right w.strand → left_to_do new < left_to_do code
     fork_leaves_less code new w r stays f right n is left goes =
         let s = strands_of_job job in
-        let same : law_of code ≡ s = law_same job code w r in
-        let now : law_of new ≡ s = ap (λ i. strands_of_job (job_of_task i)) stays.task ∙ same in
+        let same : law_of_worker code ≡ s = law_same job code w r in
+        let now : law_of_worker new ≡ s = ap (λ i. strands_of_job (job_of_task i)) stays.task ∙ same in
         let falls = weight_falls (s.depth (s.left w.strand)) (s.depth (s.right w.strand)) (s.depth w.strand) (deep.left w.strand f) (deep.right w.strand f) in
         let todo : left_to_do new ≡ weight (s.depth (s.left w.strand)) + (weight (s.depth (s.right w.strand)) + 2 + weights s code.branches) = (rw (now, is, left, goes) refl) in
         let was : left_to_do code ≡ weight (s.depth w.strand) + weights s code.branches = ap (λ l. weight (l.depth (state_of code.strand)) + weights l code.branches) same ∙ ap (λ a. weight (s.depth a) + weights s code.branches) r.strand in
         omega arith
 
-    pub forks_on : (code new : Worker) (w : Working StrandState) (r : Runs job code w) → SwitchesStrand code new → want_of code ≡ want.Fork → drawn new.drawing ≡ after_fork (drawn code.drawing) → state_of new.strand ≡ (law_of code).left (state_of code.strand)
-        → WaitsOnLeft code.branches new.branches (length code.drawing.tree) ((law_of code).right (state_of code.strand)) → Runs job new (worker_after_fork (strands_of_job job) w) × (left_to_do new < left_to_do code)
+    pub forks_on : (code new : Worker) (w : Working StrandState) (r : Runs job code w) → SwitchesStrand code new → want_of_worker code ≡ want.Fork → drawn new.drawing ≡ after_fork (drawn code.drawing) → state_of new.strand ≡ (law_of_worker code).left (state_of code.strand)
+        → WaitsOnLeft code.branches new.branches (length code.drawing.tree) ((law_of_worker code).right (state_of code.strand)) → Runs job new (worker_after_fork (strands_of_job job) w) × (left_to_do new < left_to_do code)
     forks_on code new w r stays f drawing left right =
         let s = strands_of_job job in
         let (other, is, stands) = forked_branches code.branches new.branches (length code.drawing.tree) _ right in
@@ -133,11 +133,11 @@ module _ (job : Job) where
 
     -- ## The end of a strand
 
-    module _ (code new : Worker) (memory outputs : List ℤ) (since : List Since) (c : List (Branch StrandState)) (k n m b : ℕ) (a : StrandState) (over : is_over (want_of code) ≡ true) (stays : SwitchesStrand code new) (f : ℕ) (rest : List Held) where
+    module _ (code new : Worker) (memory outputs : List ℤ) (since : List Since) (c : List (Branch StrandState)) (k n m b : ℕ) (a : StrandState) (over : is_over (want_of_worker code) ≡ true) (stays : SwitchesStrand code new) (f : ℕ) (rest : List Held) where
       is_at_end : (w : Working StrandState) → Runs job code w → is_over ((strands_of_job job).want w.strand) ≡ true
       is_at_end w r = ap is_over (sym (wants_same job code w r)) ∙ over
 
-      now_law : (w : Working StrandState) → Runs job code w → law_of new ≡ strands_of_job job
+      now_law : (w : Working StrandState) → Runs job code w → law_of_worker new ≡ strands_of_job job
       now_law w r = ap (λ i. strands_of_job (job_of_task i)) stays.task ∙ law_same job code w r
 
       pub turns_on : (right : Written) (r : StrandState) → code.branches ≡ Left f right ∷ rest
@@ -202,7 +202,7 @@ module _ (job : Job) where
       pub joins_on : (left : Written) (o : ℕ) (l : StrandState) → code.branches ≡ Right f left ∷ rest
           → Runs job code (let w : Working StrandState = record { memory = memory; outputs = outputs; branches = on_right k n o l ∷ c; forks = m; blocks = b; since = since; strand = a } in w)
           → drawn new.drawing ≡ after_join f (drawn code.drawing) → new.branches ≡ rest
-          → state_of new.strand ≡ (law_of code).joined (state_of code.strand) (state_of left)
+          → state_of new.strand ≡ (law_of_worker code).joined (state_of code.strand) (state_of left)
           → ((w : Working StrandState) × Runs job new w) × (left_to_do new < left_to_do code)
       joins_on left o l was h drawing branches strand =
           let t = code.drawing.tree in

@@ -19,7 +19,7 @@ use Rattle.cw_tree.proofs.Walks.StrandForks.{forks_of}
 use Rattle.cw_tree.proofs.NodeKinds.{other_some, block_no_strand, fork_no_strand}
 use Rattle.cw_record.specs.Items.{is_act_kind}
 use Rattle.cw_record.proofs.OneWorker.Building.{IsBuilt}
-use Rattle.cw_record.specs.Drawn.{added, forked}
+use Rattle.cw_record.specs.Drawn.{added, added_fork}
 use Rattle.cw_record.proofs.OneWorker.GrowingNames.{name_beside, fork_number_beside, forks_beside, forks_new, name_closed, fork_number_closed, forks_closed, name_forked, fork_number_forked, forks_forked_here, forks_forked_elsewhere, fork_number_forked_next, name_left, forks_left, name_right}
 use Rattle.cw_record.proofs.OneWorker.Descending.{Crossing, way_of, Descends}
 
@@ -162,11 +162,11 @@ module _ (t : List Node) (p clock : ℕ) (built : IsBuilt t p clock) where
       (forks_closed t built.rooted p st pending) (parent_of t p) c b k (omega arith) d.1
 
   pub way_fork : (st : ℕ) (c : List Crossing) (b k : ℕ) → Descends t p c b k
-      → Descends (forked t p st) (suc (length t)) ((let x : Crossing = record { node = length t; turn = record { fork = suc k; right = false }; blocks = b } in x) ∷ c) 0 0
+      → Descends (added_fork t p st) (suc (length t)) ((let x : Crossing = record { node = length t; turn = record { fork = suc k; right = false }; blocks = b } in x) ∷ c) 0 0
   way_fork st c b k d =
       let there = built.there in
       let u = added t p Fork st in
-      let v = forked t p st in
+      let v = added_fork t p st in
       let long : length u ≡ suc (length t) = length_more t (fresh_node p Fork st) in
       let down = strand_down c b k d in
       let P : ℕ → Type 0 = λ n. Descends v n c b (suc k) in

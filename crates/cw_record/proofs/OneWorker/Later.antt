@@ -22,7 +22,7 @@ use Rattle.cw_tree.proofs.Lists.{In}
 use Rattle.cw_tree.proofs.ChainLaws.LiveAccesses.{accesses_below, all_live}
 use Rattle.cw_tree.proofs.Members.{in_below, in_filter}
 use Rattle.cw_tree.proofs.Walks.There.{node_there}
-use Rattle.cw_record.specs.Drawn.{added, forked}
+use Rattle.cw_record.specs.Drawn.{added, added_fork}
 use Rattle.cw_record.proofs.OneWorker.Building.{IsBuilt}
 use Rattle.cw_tree.proofs.NextNodes.Before.{above_less}
 use Rattle.cw_tree.proofs.NextNodes.Stamps.{each_two}
@@ -79,7 +79,7 @@ module _ (t : List Node) (p clock : ℕ) (b : IsBuilt t p clock) (g : IsRising t
   pub rising_next : (kind : Kind) (st : ℕ) → clock < st → IsRising (added t p kind st)
   rising_next kind st later = rising_more t b.rooted g p kind st (λ some. over_clock st later)
 
-  pub rising_forked : (st : ℕ) → clock < st → IsRooted (added t p Fork st) → IsRising (forked t p st)
+  pub rising_forked : (st : ℕ) → clock < st → IsRooted (added t p Fork st) → IsRising (added_fork t p st)
   rising_forked st later r = rising_strand (added t p Fork st) r (rising_next Fork st later) (length t)
 
   -- the block at the place has ended: nothing stands behind it

@@ -23,7 +23,7 @@ use Rattle.cw_tree.specs.Names.{name_of}
 use Rattle.cw_tree.proofs.ChainLaws.CellJournals.{HasJournals, journals_begin}
 use Rattle.cw_tree.proofs.Walks.Strands.{strand_of_le}
 use Rattle.cw_job.specs.Jobs.{Job, job_of_task}
-use Rattle.cw_serial.specs.StrandTree.{at, ended, goes_on}
+use Rattle.cw_serial.specs.StrandTree.{at, state_at_end, goes_on}
 use Rattle.cw_job.specs.Room.Strands.{StrandState, state_of, strands_of_job}
 use Rattle.cw_serial.specs.MachineOf.{machine_of}
 use Rattle.cw_serial.proofs.Branches.{Branch, way, plugged}
@@ -43,7 +43,7 @@ use Rattle.cw_record.specs.Items.{items}
 use Rattle.cw_record.specs.Order.{node_of}
 use Rattle.cw_record.specs.Coherent.{IsMemory, HasNoOpenFork}
 use Rattle.cw_record.specs.Records.{IsWorkerRun}
-use Rattle.cw_record.specs.OneWorker.{law_of, unstarted, want_of}
+use Rattle.cw_record.specs.OneWorker.{law_of_worker, unstarted, want_of_worker}
 use Rattle.cw_record.proofs.Coherent.AddedStates.{known_root}
 use Rattle.cw_record.proofs.OneWorker.Building.{IsBuilt, open_items}
 use Rattle.cw_record.proofs.OneWorker.Behind.{waiting_over, numbered_at_fault}
@@ -81,7 +81,7 @@ all_empty (suc n) (suc c) es h = all_empty n c es h
 module _ (job : Job) where
   -- the worker at the first want of main
   pub runs_first : (code : Worker) → IsCompiled job.program → job_of_task code.task ≡ job → code.memory.items ≡ first_memory job.program.cells → code.outputs.items ≡ [] → code.undo.begun ≡ [] → drawn code.drawing ≡ blank (length code.memory.items)
-      → state_of code.strand ≡ (law_of code).start → code.branches ≡ [] → (w : Working StrandState) × Runs job code w
+      → state_of code.strand ≡ (law_of_worker code).start → code.branches ≡ [] → (w : Working StrandState) × Runs job code w
   runs_first code compiled is memory outputs begun drawing strand branches =
       let first = first_memory job.program.cells in
       let root = fresh_node 0 Strand 0 ∷ [] in
@@ -125,7 +125,7 @@ module _ (job : Job) where
 
     pub finished_run : (code : Worker) (memory outputs : List ℤ) (branches : List (Branch StrandState)) (forks blocks : ℕ) (since : List Since) (a : StrandState)
         → Runs job code (let w : Working StrandState = record { memory = memory; outputs = outputs; branches = branches; forks = forks; blocks = blocks; since = since; strand = a } in w)
-        → is_over (want_of code) ≡ true → code.branches ≡ [] → IsWorkerRun job code.drawing.tree code.drawing.journals.items (Finished code.memory.items code.outputs.items)
+        → is_over (want_of_worker code) ≡ true → code.branches ≡ [] → IsWorkerRun job code.drawing.tree code.drawing.journals.items (Finished code.memory.items code.outputs.items)
     finished_run code memory outputs branches forks blocks since a r over none =
         let t = code.drawing.tree in
         let w : Working StrandState = record { memory = memory; outputs = outputs; branches = branches; forks = forks; blocks = blocks; since = since; strand = a } in
@@ -139,9 +139,9 @@ module _ (job : Job) where
         let IP : ℕ → Type 0 = λ at. Plays (strands_of_job job) t (machine_of job) (open_items t at) (machine_at (strands_of_job job) w) in
         let played = subst IP at_root r.draws.played in
         let m = machine_at (strands_of_job job) w in
-        let stands : ended (strands_of_job job) m.strands ≡ Some a =
-        ap (λ c. ended (strands_of_job job) (plugged (strands_of_job job) c (goes_on (strands_of_job job) forks a))) empty
-        ∙ (ap (ended (strands_of_job job)) (goes_over (strands_of_job job) forks a o) ∙ ended_stands (strands_of_job job) forks a o) in
+        let stands : state_at_end (strands_of_job job) m.strands ≡ Some a =
+        ap (λ c. state_at_end (strands_of_job job) (plugged (strands_of_job job) c (goes_on (strands_of_job job) forks a))) empty
+        ∙ (ap (state_at_end (strands_of_job job)) (goes_over (strands_of_job job) forks a o) ∙ ended_stands (strands_of_job job) forks a o) in
         let tree = tree_of_shape t (let S : List Held → Type 0 = λ xs. IsShaped t (unstarted xs) in subst S none r.draws.shape) in
         let x = r.draws.states.0 in
         let known : Knows (strands_of_job job) t 0 code.branches a x = (let K : ℕ → Type 0 = λ at. Knows (strands_of_job job) t at code.branches a x in subst K at_root r.draws.states.1) in
@@ -203,7 +203,7 @@ module _ (job : Job) where
         (cancels_strands u first fs (rooted_more t x rooted low) (same_more t none f Strand 0).none_too (All-weaker (λ g. g < length t) (λ g. g < length u) (λ g less. omega (arith, length_more t x)) fs (All-tail (λ g. g < length t) f fs there))
         (cancels_plain t rooted none first h f Strand 0 (λ c. refl) (λ back e. absurd (cc e))))
 
-    pub fault_run : (code : Worker) (w : Working StrandState) → Runs job code w → (kind : FaultKind) → want_of code ≡ want.Fault kind → (t : List Node) → t ≡ with_strands code.drawing.tree (unstarted code.branches)
+    pub fault_run : (code : Worker) (w : Working StrandState) → Runs job code w → (kind : FaultKind) → want_of_worker code ≡ want.Fault kind → (t : List Node) → t ≡ with_strands code.drawing.tree (unstarted code.branches)
         → IsWorkerRun job t code.drawing.journals.items (Fault (strand_of code.drawing.tree code.drawing.place) kind)
     fault_run code w r kind is t grown =
         let old = code.drawing.tree in

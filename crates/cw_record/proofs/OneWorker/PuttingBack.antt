@@ -6,7 +6,6 @@ use Rattle.std.proofs.Math.Bool.{or-false}
 use Rattle.std.proofs.lemmas.Bool.{lt-ltb, cases_eq, eq-eqb, ne_eqb, false_from_ne_true}
 use Rattle.std.proofs.lemmas.List.{map-id}
 use Rattle.std.proofs.lemmas.List.Folds.{list_any-append, list_any_none}
-use Rattle.std.proofs.lemmas.List.Sums.{take_while-cons}
 use Rattle.std.proofs.lemmas.Option.{unwrap_or-slice_get}
 use Rattle.cw_code.specs.declared.Back.{Back}
 use Rattle.cw_tree.specs.declared.node.Node.{Node}
@@ -28,9 +27,10 @@ use Rattle.cw_tree.proofs.NextNodes.Closing.{length_closed}
 use Rattle.cw_tree.proofs.Walks.Ancestors.{ancestor_self, above_ancestor, ancestor_up, ancestor_past, ancestor_trans}
 use Rattle.cw_job.specs.Memory.{value_at}
 use Rattle.cw_strand.specs.declared.want.Want.TheVariants.{End}
-use Rattle.cw_serial.specs.Wants.{Since, was_written, with_write, given_up, since_after, put_back as puts_back}
+use Rattle.cw_tree.proofs.Cancels.{before_step}
+use Rattle.cw_serial.specs.Wants.{Since, was_written, with_write, given_up, since_after, put_back_since}
 use Rattle.cw_serial.proofs.Numbers.{get_some}
-use Rattle.cw_record.specs.Drawn.{added, forked}
+use Rattle.cw_record.specs.Drawn.{added, added_fork}
 use Rattle.cw_record.proofs.OneWorker.Building.{IsBuilt}
 use Rattle.cw_record.proofs.OneWorker.Descending.{Crossing, Descends}
 use Rattle.cw_record.proofs.OneWorker.Grown.{IsGrown, grown_by, grown_closed, grown_twice}
@@ -68,9 +68,6 @@ module _ (t : List Node) (b : ℕ) (old new : List ℕ) (outside : (u : ℕ) →
       ∙ any_same p (λ u. is_some (written t u)) new (λ u i. ap (λ a. a && nat_lt (stamp_of t u) stamp && is_some (written t u)) (beneath u i)
       ∙ ap (λ a. a && is_some (written t u)) (lt-ltb (stamp_of t u) stamp (less u i)))
 
-before_step : (t : List Node) (b n : ℕ) (ns : List ℕ) → before_block t b (n ∷ ns) ≡ cond (not (is_above t b n)) (n ∷ before_block t b ns) []
-before_step t b n ns = take_while-cons (λ u. not (is_above t b u)) n ns
-
 before_old : (t : List Node) (b : ℕ) (old new : List ℕ) → ((u : ℕ) → In u old → is_above t b u ≡ false) → ((u : ℕ) → In u new → is_above t b u ≡ true)
     → before_block t b (old ++ new) ≡ old
 before_old t b [] [] outside beneath = refl
@@ -97,7 +94,7 @@ module _ (t : List Node) (first : List ℤ) (b : ℕ) (x : Since) (h : IsKept t 
       s.value ∙ ap (λ us. cell_value (slice_index_or first c (pos 0)) (map (written t) us)) (sym (ap (before_block t b) s.all
       ∙ before_old t b s.old s.new s.outside s.beneath))
 
-  pub puts_back_same : puts_back x ≡ put_back t first (live_accesses t) b stamp
+  pub puts_back_same : put_back_since x ≡ put_back t first (live_accesses t) b stamp
   puts_back_same =
       let entry : ℕ → ℤ → Back = λ c v. record { cell = c; value = v } in
       let wrote : ℕ → Bool = λ c. wrote_in t b stamp (live_accesses t c) in
@@ -309,10 +306,10 @@ module _ (t : List Node) (p clock : ℕ) (built : IsBuilt t p clock) (first : Li
 
   -- ## A fork
 
-  pub keeps_forked : (st : ℕ) → parent_of (forked t p st) (length t) ≡ p → Keeps (forked t p st) first (parent_of (forked t p st) (length t)) c b xs
+  pub keeps_forked : (st : ℕ) → parent_of (added_fork t p st) (length t) ≡ p → Keeps (added_fork t p st) first (parent_of (added_fork t p st) (length t)) c b xs
   keeps_forked st at =
       let u = added t p Fork st in
-      let v = forked t p st in
+      let v = added_fork t p st in
       let x = fresh_node (length t) Strand 0 in
       let g = grown_by t built.rooted none p Fork st in
       let h = grown_by u (rooted_more t (fresh_node p Fork st) built.rooted built.there) g.same.none_too (length t) Strand 0 in

@@ -19,7 +19,7 @@ use Rattle.cw_record.specs.declared.worker.Branch.{Branch as Held}
 use Rattle.cw_record.specs.declared.worker.Branch.TheVariants.{Left, Right}
 use Rattle.cw_record.specs.declared.worker.Worker.{Worker}
 use Rattle.cw_record.specs.Drawn.{Drawn, drawn}
-use Rattle.cw_record.specs.OneWorker.{law_of, unstarted, want_of}
+use Rattle.cw_record.specs.OneWorker.{law_of_worker, unstarted, want_of_worker}
 use Rattle.cw_record.proofs.OneWorker.Building.{IsBuilt, open_items}
 use Rattle.cw_record.proofs.OneWorker.Descending.{Crossing, way_of, Descends}
 use Rattle.cw_record.proofs.OneWorker.GrowingWays.{strand_down}
@@ -59,7 +59,7 @@ weights s (Left f right ∷ xs) = weight (s.depth (state_of right)) + 2 + weight
 weights s (Right f left ∷ xs) = 1 + weights s xs
 
 abbrev pub left_to_do : Worker → ℕ
-left_to_do w = weight ((law_of w).depth (state_of w.strand)) + weights (law_of w) w.branches
+left_to_do w = weight ((law_of_worker w).depth (state_of w.strand)) + weights (law_of_worker w) w.branches
 
 -- What is drawn is this run so far, where the strands on the way down are these.
 pub record Draws (job : Job) (d : Drawn) (xs : List Held) (w : Working StrandState) : Type 0 where
@@ -101,8 +101,8 @@ runs_name job code w r = (strand_down code.drawing.tree code.drawing.place code.
 
 module _ (job : Job) (code : Worker) (w : Working StrandState) (r : Runs job code w) where
   -- the strand in memory wants what this one wants
-  pub wants_same : want_of code ≡ (strands_of_job job).want w.strand
+  pub wants_same : want_of_worker code ≡ (strands_of_job job).want w.strand
   wants_same = ap (λ j. (strands_of_job j).want (state_of code.strand)) r.job_is ∙ ap (strands_of_job job).want r.strand
 
-  pub law_same : law_of code ≡ strands_of_job job
+  pub law_same : law_of_worker code ≡ strands_of_job job
   law_same = ap strands_of_job r.job_is

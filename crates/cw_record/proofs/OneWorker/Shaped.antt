@@ -21,7 +21,7 @@ use Rattle.cw_tree.proofs.InOrder.DepthFirst.{no_children, child_is}
 use Rattle.cw_tree.proofs.Lists.{In}
 use Rattle.cw_tree.proofs.NextNodes.Trees.{each_more, may_hold, no_fork, holds_here}
 use Rattle.cw_tree.proofs.Walks.There.{node_there}
-use Rattle.cw_record.specs.Drawn.{added, forked}
+use Rattle.cw_record.specs.Drawn.{added, added_fork}
 use Rattle.cw_record.proofs.OneWorker.Unstarted.{with_strands}
 use Rattle.cw_record.proofs.OneWorker.Waiting.{one_unstarted}
 
@@ -188,7 +188,7 @@ module _ (t : List Node) (fs : List ℕ) (s : IsShaped t fs) (p : ℕ) (there : 
       shaped_more t fs s p there kind stamp made fs (no_strand ∙ sym (no_fork t p place)) (holds_here t p place) (forks_kept t fs s p there kind stamp fs s.to_come) (λ f e. omega (arith, apart f e)) (λ e. absurd (cc (e, other)))
 
   -- a fork, with its left strand
-  pub shaped_forked : (stamp : ℕ) → IsShaped (forked t p stamp) (length t ∷ fs)
+  pub shaped_forked : (stamp : ℕ) → IsShaped (added_fork t p stamp) (length t ∷ fs)
   shaped_forked stamp =
       let n = length t in
       let u = added t p Fork stamp in

@@ -12,7 +12,7 @@ use Rattle.cw_tree.specs.NextNodes.{IsNextStamp}
 use Rattle.cw_tree.proofs.Walks.Ancestors.{ancestor_self}
 use Rattle.cw_tree.proofs.NextNodes.Growing.{length_more, rooted_more}
 use Rattle.cw_tree.proofs.NextNodes.Stamps.{IsEnd, stamps_more}
-use Rattle.cw_record.specs.Drawn.{added, forked}
+use Rattle.cw_record.specs.Drawn.{added, added_fork}
 use Rattle.cw_record.proofs.OneWorker.Building.{IsBuilt}
 use Rattle.cw_record.proofs.OneWorker.GrowingItems.{built_root}
 use Rattle.cw_record.proofs.OneWorker.InSeries.{none_after}
@@ -84,7 +84,7 @@ module _ (t : List Node) (p clock : ℕ) (b : IsBuilt t p clock) (s : AreStamps 
   stamped_next kind other = stamped_more t b.rooted s p b.there kind stamp (lt-ltb 0 stamp (omega arith) ∙ sym (ap not other)) (λ some. (clock, b, later))
 
   -- a fork, with its left strand
-  pub stamped_forked : AreStamps (forked t p stamp)
+  pub stamped_forked : AreStamps (added_fork t p stamp)
   stamped_forked =
       let x = fresh_node p Fork stamp in
       stamped_strand (added t p Fork stamp) (rooted_more t x b.rooted b.there) (stamped_next Fork refl) (length t) (omega (arith, length_more t x))

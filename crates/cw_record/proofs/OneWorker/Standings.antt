@@ -8,7 +8,7 @@ use Rattle.cw_record.specs.declared.worker.Branch.{Branch}
 use Rattle.cw_record.specs.declared.worker.Branch.TheVariants.{Left, Right}
 use Rattle.cw_job.specs.declared.task.Task.{Task}
 use Rattle.cw_record.specs.declared.worker.Worker.{Worker}
-use Rattle.cw_record.specs.OneWorker.{Acts, FollowsBlocks, SwitchesStrand, AllStand, AllBranchesStand, BranchStands}
+use Rattle.cw_record.specs.OneWorker.{DoesItsWant, FollowsBlocks, SwitchesStrand, AllStand, AllBranchesStand, BranchStands}
 
 -- what stands for one task stands for the same one
 stand_for : (t : Task) (new : Worker) → new.task ≡ t → IsOf t.program.now new.strand → AllBranchesStand t.program.now new.branches → AllStand new
@@ -20,9 +20,9 @@ module _ (code : Worker) (all : AllStand code) where
   abbrev program : Program
   program = code.task.program.now
 
-  pub act_stands : (followed new : Worker) → FollowsBlocks code followed → Acts followed new → IsOf followed.task.program.now new.strand → AllStand new
+  pub act_stands : (followed new : Worker) → FollowsBlocks code followed → DoesItsWant followed new → IsOf followed.task.program.now new.strand → AllStand new
   act_stands followed new follows acts is =
-      let from : Worker → Type 0 = λ v. Acts v new × IsOf v.task.program.now new.strand in
+      let from : Worker → Type 0 = λ v. DoesItsWant v new × IsOf v.task.program.now new.strand in
       let (made, stands) = subst from follows.same (acts, is) in
       stand_for code.task new made.task stands (subst (AllBranchesStand program) (sym made.branches) all.branches)
 

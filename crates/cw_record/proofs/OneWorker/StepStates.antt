@@ -22,7 +22,7 @@ use Rattle.cw_job.specs.Room.Strands.{StrandState, state_of}
 use Rattle.cw_job.specs.declared.standing.Standing.{Standing as Written}
 use Rattle.cw_record.specs.declared.worker.Branch.{Branch}
 use Rattle.cw_record.specs.declared.worker.Branch.TheVariants.{Left}
-use Rattle.cw_record.specs.Drawn.{added, forked}
+use Rattle.cw_record.specs.Drawn.{added, added_fork}
 use Rattle.cw_record.proofs.Coherent.AddedStates.{with_node, state_other, state_same, none_in_new, reached_new, starts_in, starts_left, knows_leaf, knows_down}
 use Rattle.cw_record.proofs.OneWorker.Building.{IsBuilt}
 use Rattle.cw_record.proofs.OneWorker.KnownStates.{Known, Knows}
@@ -76,7 +76,7 @@ module _ (s : Strands StrandState) where
       low = omega (arith, length_more t (fresh_node p Fork st))
 
       abbrev v : List Node
-      v = forked t p st
+      v = added_fork t p st
 
       abbrev z : States StrandState
       z = with_node s u r y (length t) low Strand 0 (s.left a) (s.left a)
@@ -104,7 +104,7 @@ module _ (s : Strands StrandState) where
             waits = ((omega arith, stands ∙ ap s.right (sym (state_other y.before (length u) (s.left a) (length t) (omega arith) ∙ before_fork))), h.waits);
           }
 
-      pub states_fork : Known s (forked t p st) (suc (length t)) (Left (length t) right ∷ xs) (s.left a)
+      pub states_fork : Known s (added_fork t p st) (suc (length t)) (Left (length t) right ∷ xs) (s.left a)
       states_fork = let P : ℕ → Type 0 = λ n. Knows s v n (Left (length t) right ∷ xs) (s.left a) z in (z, subst P (length_more t (fresh_node p Fork st)) with_right)
 
     -- ## The end of a block

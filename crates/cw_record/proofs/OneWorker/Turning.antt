@@ -24,7 +24,7 @@ use Rattle.cw_record.specs.declared.worker.Worker.{Worker}
 use Rattle.cw_record.specs.declared.worker.Run.{Run}
 use Rattle.cw_record.specs.declared.drawing.Drawing.{Drawing}
 use Rattle.cw_record.specs.declared.record_end.RecordEnd.{RecordEnd}
-use Rattle.cw_record.specs.OneWorker.{FollowsBlocks, SwitchesStrand, WaitsOnLeft, law_of, unstarted, want_of}
+use Rattle.cw_record.specs.OneWorker.{FollowsBlocks, SwitchesStrand, WaitsOnLeft, law_of_worker, unstarted, want_of_worker}
 use Rattle.cw_record.proofs.OneWorker.AccessesThere.{AccessesThere}
 use Rattle.cw_record.proofs.OneWorker.Acting.{Acted, acts_on, act_leaves_less, end_blocks, follows_there}
 use Rattle.cw_record.proofs.OneWorker.Descending.{Descends}
@@ -44,8 +44,8 @@ StillRuns job code new = ((v : Working StrandState) × Runs job new v) × (left_
 -- a worker that can do what its strand wants, behind the blocks that were followed
 pub record IsReady (w : Worker) : Type 0 where
   pub there : w.drawing.place < length w.drawing.tree
-  pub answered : takes_answer (want_of w) ≡ true
-  pub block : want_of w ≡ want.End → IsTrue (is_block w.drawing.tree w.drawing.place)
+  pub answered : takes_answer (want_of_worker w) ≡ true
+  pub block : want_of_worker w ≡ want.End → IsTrue (is_block w.drawing.tree w.drawing.place)
   pub stands : IsOf w.task.program.now w.strand
 
 module _ {job : Job} {code : Worker} {w : Working StrandState} (r : Runs job code w) where
@@ -79,23 +79,23 @@ module _ {job : Job} {code : Worker} {w : Working StrandState} (r : Runs job cod
     deep = deep_of job
 
     -- the blocks can be followed
-    pub follow_run : takes_answer (want_of code) ≡ true → IsSome (begun_after (want_of code) 0 code.undo)
+    pub follow_run : takes_answer (want_of_worker code) ≡ true → IsSome (begun_after (want_of_worker code) 0 code.undo)
     follow_run answered = follows_there job closes there code w r answered
 
     -- ## A step
 
-    pub act_run : (followed new : Worker) → takes_answer (want_of code) ≡ true → Acted code followed new → StillRuns job code new
+    pub act_run : (followed new : Worker) → takes_answer (want_of_worker code) ≡ true → Acted code followed new → StillRuns job code new
     act_run followed new answered acted =
         ((after_act (strands_of_job job) w, acts_on job closes there code followed new w r answered acted), act_leaves_less job closes there deep code followed new w r answered acted)
 
-    pub fork_run : {new : Worker} → SwitchesStrand code new → want_of code ≡ want.Fork → drawn new.drawing ≡ after_fork (drawn code.drawing) → state_of new.strand ≡ (law_of code).left (state_of code.strand)
-        → WaitsOnLeft code.branches new.branches (length code.drawing.tree) ((law_of code).right (state_of code.strand)) → StillRuns job code new
+    pub fork_run : {new : Worker} → SwitchesStrand code new → want_of_worker code ≡ want.Fork → drawn new.drawing ≡ after_fork (drawn code.drawing) → state_of new.strand ≡ (law_of_worker code).left (state_of code.strand)
+        → WaitsOnLeft code.branches new.branches (length code.drawing.tree) ((law_of_worker code).right (state_of code.strand)) → StillRuns job code new
     fork_run {new} stays wanted drawing left right =
         let (runs, less) = forks_on job deep closes code new w r stays wanted drawing left right in
         ((worker_after_fork (strands_of_job job) w, runs), less)
 
     -- from the end of a strand to the branch that was taken
-    module _ {x : Held} {rest : List Held} (taken : code.branches ≡ x ∷ rest) {new : Worker} (over : is_over (want_of code) ≡ true) (keeps : SwitchesStrand (record code { branches = rest }) new) where
+    module _ {x : Held} {rest : List Held} (taken : code.branches ≡ x ∷ rest) {new : Worker} (over : is_over (want_of_worker code) ≡ true) (keeps : SwitchesStrand (record code { branches = rest }) new) where
       stays : SwitchesStrand code new
       stays = record { task = keeps.task; memory = keeps.memory; outputs = keeps.outputs; undo = keeps.undo }
 
@@ -109,7 +109,7 @@ module _ {job : Job} {code : Worker} {w : Working StrandState} (r : Runs job cod
         by _ e h = absurd h
 
       pub join_run : {f : ℕ} {left : Written} → x ≡ Right f left → drawn new.drawing ≡ after_join f (drawn code.drawing) → new.branches ≡ rest
-          → state_of new.strand ≡ (law_of code).joined (state_of code.strand) (state_of left) → StillRuns job code new
+          → state_of new.strand ≡ (law_of_worker code).joined (state_of code.strand) (state_of left) → StillRuns job code new
       join_run {f} {left} is drawing branches strand = by w.branches refl (held (Right f left) rest was) where
         was : code.branches ≡ Right f left ∷ rest
         was = taken ∙ ap (λ b. b ∷ rest) is
@@ -119,7 +119,7 @@ module _ {job : Job} {code : Worker} {w : Working StrandState} (r : Runs job cod
         by _ e h = absurd h
 
     -- a block is ended where the place is in it
-    pub end_at_block : want_of code ≡ want.End → IsTrue (is_block code.drawing.tree code.drawing.place)
+    pub end_at_block : want_of_worker code ≡ want.End → IsTrue (is_block code.drawing.tree code.drawing.place)
     end_at_block e =
         let wanted : (strands_of_job job).want w.strand ≡ want.End = sym (wants_same job code w r) ∙ e in
         let (n, is) = end_blocks w.branches w.blocks (subst (λ (v : Want). MayWant v (own_in w.branches w.blocks)) wanted (closes _ _ (reached (strands_of_job job) r.work))) in
@@ -127,14 +127,14 @@ module _ {job : Job} {code : Worker} {w : Working StrandState} (r : Runs job cod
         way_block code.drawing.tree code.drawing.place (crossings code.branches w.branches) n w.forks (subst P is r.draws.place)
 
     -- behind the blocks that were followed it is as it was
-    pub act_ready : (followed : Worker) → FollowsBlocks code followed → takes_answer (want_of code) ≡ true → IsOf code.task.program.now code.strand → IsReady followed
+    pub act_ready : (followed : Worker) → FollowsBlocks code followed → takes_answer (want_of_worker code) ≡ true → IsOf code.task.program.now code.strand → IsReady followed
     act_ready followed follows answered stands =
         let old : IsReady (record code { undo = followed.undo }) = record { there = r.draws.built.there; answered = answered; block = end_at_block; stands = stands } in
         subst IsReady (sym follows.same) old
 
     -- ## What is answered
 
-    pub finish_answer : is_over (want_of code) ≡ true → code.branches ≡ [] → (run : Run) → run.drawing ≡ code.drawing → run.end ≡ Finished code.memory.items code.outputs.items
+    pub finish_answer : is_over (want_of_worker code) ≡ true → code.branches ≡ [] → (run : Run) → run.drawing ≡ code.drawing → run.end ≡ Finished code.memory.items code.outputs.items
         → IsWorkerRun job run.drawing.tree run.drawing.journals.items run.end
     finish_answer over none run drawing end =
         let all = finished_run job closes code w.memory w.outputs w.branches w.forks w.blocks w.since w.strand r over none in
@@ -142,7 +142,7 @@ module _ {job : Job} {code : Worker} {w : Working StrandState} (r : Runs job cod
         let E : RecordEnd → Type 0 = λ e. IsWorkerRun job run.drawing.tree run.drawing.journals.items e in
         subst E (sym end) (subst D (sym drawing) all)
 
-    pub fault_answer : (kind : FaultKind) → want_of code ≡ want.Fault kind → (result : Result Run OutOfMemory)
+    pub fault_answer : (kind : FaultKind) → want_of_worker code ≡ want.Fault kind → (result : Result Run OutOfMemory)
         → IfOk result (λ x. x.drawing.tree ≡ with_strands code.drawing.tree (unstarted code.branches)) → IfOk result (λ x. x.drawing.journals.items ≡ code.drawing.journals.items)
         → IfOk result (λ x. x.end ≡ Fault (strand_of code.drawing.tree code.drawing.place) kind) → IfOk result (λ x. IsWorkerRun job x.drawing.tree x.drawing.journals.items x.end)
     fault_answer kind is (Ok x) tree journals end =

@@ -26,14 +26,6 @@ rises_append (x ∷ xs) ys r s h = (
   rises_append xs ys r.1 s (λ a b i j. h a b (inr i) j),
 )
 
--- one node more
-pub hangs_more : (t : List Node) (n : ℕ) → HangsFrom t n → 0 < n → is_ancestor t (parent_of t n) (n - 1) ≡ true → HangsFrom t (n + 1)
-hangs_more t n w s a m h =
-    by_case (cases_eq (suc m) n) where
-      by_case : (suc m ≡ n) ⊎ (suc m ≡ n → ⊥) → is_ancestor t (parent_of t (suc m)) m ≡ true
-      by_case (inl e) = let before : m ≡ n - 1 = omega arith in ap (λ k. is_ancestor t (parent_of t k) m) e ∙ ap (is_ancestor t (parent_of t n)) before ∙ a
-      by_case (inr ne) = w m (omega arith)
-
 -- the parent of what is n, or above it, stands above it too
 pub above_too : (t : List Node) → IsRooted t → (a n q : ℕ) → 0 < a → n < length t → a < length t → q ≡ parent_of t a → is_ancestor t a n ≡ true → is_ancestor t q n ≡ true
 above_too t r a n q s l h e over =

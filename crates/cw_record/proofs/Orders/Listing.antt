@@ -59,8 +59,8 @@ module _ (t : List Node) (order : List ℕ) where
   listing_start k found places none e q = (let P : List ℕ → Type 0 = λ ns. Listing t order 0 ns places in subst P (sym none) (listed_none k places e q))
 
   module _ (i : ℕ) (found : List ℕ) (places : List (Option ℕ)) (w : Listing t order i found places) (s : ℕ) (more : i < length order) (is : s ≡ get_or order i 0) (there : s < length t) where
-    listed_more : once [] (map (name_of t) (take (i + 1) order)) ≡ map (name_of t) found ++ cond (is_some (place_in (map (name_of t) found) (name_of t s))) [] (name_of t s ∷ [])
-    listed_more =
+    with_nestings_more : once [] (map (name_of t) (take (i + 1) order)) ≡ map (name_of t) found ++ cond (is_some (place_in (map (name_of t) found) (name_of t s))) [] (name_of t s ∷ [])
+    with_nestings_more =
         ap (λ ns. once [] (map (name_of t) ns)) (take_more order i 0 more)
         ∙ ap (once []) (map-append (name_of t) (take i order) (get_or order i 0 ∷ []))
         ∙ ap (λ m. once [] (map (name_of t) (take i order) ++ name_of t m ∷ [])) (sym is)
@@ -79,7 +79,7 @@ module _ (t : List Node) (order : List ℕ) where
 
       listed_known : is_some own ≡ true → Listing t order (i + 1) found places
       listed_known known = record {
-        listed = sym (append-nil (map (name_of t) found)) ∙ ap (λ b. map (name_of t) found ++ cond b [] (name_of t s ∷ [])) (sym (sym (ap is_some own_is) ∙ known)) ∙ sym listed_more;
+        listed = sym (append-nil (map (name_of t) found)) ∙ ap (λ b. map (name_of t) found ++ cond b [] (name_of t s ∷ [])) (sym (sym (ap is_some own_is) ∙ known)) ∙ sym with_nestings_more;
         strands = w.strands;
         len = w.len;
         at = w.at;
@@ -124,7 +124,7 @@ module _ (t : List Node) (order : List ℕ) where
           listed = ap (map (name_of t)) e
               ∙ map-append (name_of t) found (s ∷ [])
               ∙ ap (λ b. map (name_of t) found ++ cond b [] (name_of t s ∷ [])) (sym (sym (ap is_some own_is) ∙ new))
-              ∙ sym listed_more;
+              ∙ sym with_nestings_more;
           strands = (let P : List ℕ → Type 0 = All (λ m. IsTrue (is_strand t m)) in subst P (sym e) (All-push (λ m. IsTrue (is_strand t m)) found s w.strands strand));
           len = length-set places first (Some (length found)) ∙ w.len;
           at = at_more grown e;

@@ -16,7 +16,7 @@ use Rattle.cw_tree.specs.Walks.{above, is_above, is_ancestor, lca}
 use Rattle.cw_tree.specs.Attempts.{elders, tried_cell, tried_cell_in, same_cell, block_attempt, access_attempt, attempt_of}
 use Rattle.cw_tree.specs.Accesses.{is_live}
 use Rattle.cw_tree.specs.Histories.{IsHistory}
-use Rattle.cw_tree.specs.Refusals.{IsRecorded, Spent, is_victim, is_refused_in, names_victim, may_be_last, refused, telling, tells, outermost_apart, victim_of}
+use Rattle.cw_tree.specs.Refusals.{IsRecorded, Spent, is_victim, is_refused_in, names_victim, may_be_last, refused_node, telling, tells, outermost_apart, victim_of}
 use Rattle.cw_tree.specs.Links.{is_child}
 use Rattle.cw_tree.proofs.Lists.{In, any_from, at_or_before}
 use Rattle.cw_tree.proofs.Members.{below_none, filter_same, in_below, filter_in}
@@ -272,8 +272,8 @@ module _ (t : List Node) (first : List ℤ) (kept : List (List Entry)) (cs : Lis
             let (block, apart) = and_parts (is_block t b) (not (is_above t b u)) (outermost_passes (λ m. is_block t m && not (is_above t m u)) (above t c.asker) b f) in
             let is : v ≡ stamp_of t b = cc (same ∙ ap (option_map (stamp_of t)) f) in
             let begun : block_with_stamp t v ≡ Some b = ap (block_with_stamp t) is ∙ begun_at b block in
-            let fell : refused t c ≡ b = ap (λ o. option_map_or (λ x. unwrap_or (block_with_stamp t x) 0) o c.asker) told ∙ ap (λ o. unwrap_or o 0) begun in
-            let (live, ends) = and_parts (is_live t (refused t c)) (is_tried t (refused t c) || is_pending t (refused t c)) last in
+            let fell : refused_node t c ≡ b = ap (λ o. option_map_or (λ x. unwrap_or (block_with_stamp t x) 0) o c.asker) told ∙ ap (λ o. unwrap_or o 0) begun in
+            let (live, ends) = and_parts (is_live t (refused_node t c)) (is_tried t (refused_node t c) || is_pending t (refused_node t c)) last in
             let pending : is_pending t b ≡ true = ap (λ x. x || is_pending t b) (sym (block_kind (slice_get t b) block).1) ∙ (ap (λ n. is_tried t n || is_pending t n) (sym fell) ∙ ends) in
             let own : strand_of t b ≡ s = eqb-true (strand_of t b) s (sym (ap (λ o. option_map_or (λ n. nat_eq (strand_of t n) s) o false) begun) ∙ stands) in
             let P : ℕ → Type 0 = λ n. HasAttempts n cs (λ d. (m : ℕ) × IsAttemptOf t b m × (victim_of d ≡ Some (stamp_of t m))) in

@@ -13,7 +13,7 @@ use Rattle.cw_tree.specs.declared.closed.Halt.TheVariants as halt
 use Rattle.cw_tree.specs.Nodes.{stamp_of, is_strand, is_fork, is_block}
 use Rattle.cw_tree.specs.Walks.{IsNumbered, is_ancestor, path}
 use Rattle.cw_tree.specs.Series.{children, place, strand_of}
-use Rattle.cw_tree.specs.Refusals.{is_victim, victim_of, refused}
+use Rattle.cw_tree.specs.Refusals.{is_victim, victim_of, refused_node}
 use Rattle.cw_tree.specs.Newest.{newest}
 use Rattle.cw_tree.specs.InOrder.{renamed, in_order, conflicts_in_order, halt_in_order}
 use Rattle.cw_tree.proofs.Lists.{In, any_in}
@@ -142,7 +142,7 @@ module _ {A : Type 0} (s : Strands A) (first : List ℤ) (budget : ℕ) (m : Ope
       let P : ℕ → Type 0 = λ k. IsLeftOf t x k in
       lefts_ended k told.state.well y running (l.faulted y kind q) x is (subst P (renamed_apart t w n (place t y) hn there (e ∙ place_is)) z)
   at_end before after reached (Some (halt.Budget y)) b q end x n is hn z e =
-      let P : List Conflict → Type 0 = λ ds. list_any (λ d. (d.attempt == budget) && (strand_of t (refused t d) == y)) ds ≡ true in
+      let P : List Conflict → Type 0 = λ ds. list_any (λ d. (d.attempt == budget) && (strand_of t (refused_node t d) == y)) ds ≡ true in
       absurd (let told = subst P l.unrefused end.told in cc told)
   at_end before after reached (Some halt.Memory) b q end x n is hn z e = absurd end
 

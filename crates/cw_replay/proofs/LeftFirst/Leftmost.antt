@@ -4,7 +4,7 @@ use Rattle.std.specs.Prelude.{◌⊎◌}
 use Rattle.std.specs.Option.{option_or}
 use Rattle.cw_strand.specs.Strands.{Strands, IsDeep, is_over}
 use Rattle.cw_tree.specs.declared.picks.Turn.{Turn}
-use Rattle.cw_serial.specs.StrandTree.{StrandTree, stands, waits, ended, goes_on}
+use Rattle.cw_serial.specs.StrandTree.{StrandTree, stands, waits, state_at_end, goes_on}
 use Rattle.cw_serial.specs.DepthFirst.{beneath, leftmost}
 use Rattle.cw_serial.proofs.Deep.{meet_left, meet_right, meet_both, goes_nowhere, goes_forking}
 use Rattle.cw_replay.proofs.RecordsReplay.Work.Work.{Work, nil, act, split, Has, Doing, fold, Over, Way, runs, splits, HasWay}
@@ -42,7 +42,7 @@ module _ {I A : Type 0} where
   beside_left i j (splits k l r w) (inr (inr (inr z))) = inl z.0
 
 -- a strand that has ended is not the leftmost
-pub ended_none : {A : Type 0} (s : Strands A) (x : StrandTree A) (a : A) → ended s x ≡ Some a → leftmost s x ≡ None
+pub ended_none : {A : Type 0} (s : Strands A) (x : StrandTree A) (a : A) → state_at_end s x ≡ Some a → leftmost s x ≡ None
 ended_none {A = A} s (stands k b) a e = by (is_over (s.want b)) e where
   by : (o : Bool) → cond o (Some b) None ≡ Some a → cond o None (let p : List Turn = [] in Some p) ≡ None
   by true e = refl

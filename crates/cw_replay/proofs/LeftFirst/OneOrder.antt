@@ -7,7 +7,7 @@ use Rattle.cw_strand.specs.Strands.{Strands}
 use Rattle.cw_tree.specs.declared.node.Node.{Node}
 use Rattle.cw_tree.specs.declared.picks.Turn.{Turn}
 use Rattle.cw_tree.specs.Names.{name_of}
-use Rattle.cw_serial.specs.StrandTree.{at, put, ended}
+use Rattle.cw_serial.specs.StrandTree.{at, put, state_at_end}
 use Rattle.cw_serial.specs.Wants.{answer_to, memory_after, outputs_after, blocks_after, since_after}
 use Rattle.cw_serial.specs.Machine.{Begun, Machine, same_name, may_pick, does, pick_at, pick, has_ended}
 use Rattle.cw_serial.specs.DepthFirst.{leftmost, GoesDepthFirst, here, picks}
@@ -39,8 +39,8 @@ module _ {A : Type 0} (s : Strands A) where
 
   -- where all strands have ended there is no leftmost one
   ended_no_leftmost : (m : Machine A) → has_ended s m ≡ true → leftmost s m.strands ≡ None
-  ended_no_leftmost m e = by (ended s m.strands) refl e where
-    by : (o : Option A) → ended s m.strands ≡ o → is_some o ≡ true → leftmost s m.strands ≡ None
+  ended_no_leftmost m e = by (state_at_end s m.strands) refl e where
+    by : (o : Option A) → state_at_end s m.strands ≡ o → is_some o ≡ true → leftmost s m.strands ≡ None
     by None q e = absurd (cc e)
     by (Some a) q e = ended_none s m.strands a q
 

@@ -6,7 +6,7 @@ use Rattle.cw_strand.specs.declared.want.Given.{Given}
 use Rattle.cw_strand.specs.Strands.{Strands, IsAnswer, IsDeep, is_over, wants_fork}
 use Rattle.cw_strand.specs.Pasts.{Past, answered, left_of, right_of, joined_of, became, CanBe, WantTheSame}
 use Rattle.cw_tree.specs.declared.picks.Turn.{Turn}
-use Rattle.cw_serial.specs.StrandTree.{StrandTree, stands, waits, side_by, ended, meet, run_on, goes_on, at, put}
+use Rattle.cw_serial.specs.StrandTree.{StrandTree, stands, waits, side_by, state_at_end, meet, run_on, goes_on, at, put}
 use Rattle.cw_serial.proofs.Deep.{fork_want, met, meet_is, same_levels}
 use Rattle.cw_replay.specs.SameMachines.{BothOrNeither}
 
@@ -94,7 +94,7 @@ module _ {A B : Type 0} (s : Strands A) (t : Strands B) where
     pub want_same : (a : A) (b : B) → HaveOnePast a b → s.want a ≡ t.want b
     want_same a b h = ap s.want h.one ∙ same.wants h.past h.can ∙ sym (ap t.want h.other)
 
-    pub ended_alike : (x : StrandTree A) (y : StrandTree B) → AreAlike x y → BothOrNeither HaveOneEnd (ended s x) (ended t y)
+    pub ended_alike : (x : StrandTree A) (y : StrandTree B) → AreAlike x y → BothOrNeither HaveOneEnd (state_at_end s x) (state_at_end t y)
     ended_alike (stands k a) (stands j b) h =
         subst (λ w. BothOrNeither HaveOneEnd (cond (is_over (s.want a)) (Some a) None) (cond (is_over w) (Some b) None)) (want_same a b h.1) (by (is_over (s.want a)) refl) where
           by : (c : Bool) → is_over (s.want a) ≡ c → BothOrNeither HaveOneEnd (cond c (Some a) None) (cond c (Some b) None)
@@ -118,8 +118,8 @@ module _ {A B : Type 0} (s : Strands A) (t : Strands B) where
       meet_alike : AreAlike (meet s go k l r) (meet t run k u v)
       meet_alike =
           subst (λ x. AreAlike x (meet t run k u v)) (sym (meet_is s go k l r))
-          (subst (λ y. AreAlike (met s go k l r (ended s l) (ended s r)) y) (sym (meet_is t run k u v))
-          (met_alike (ended s l) (ended s r) (ended t u) (ended t v) (ended_alike l u left) (ended_alike r v right)))
+          (subst (λ y. AreAlike (met s go k l r (state_at_end s l) (state_at_end s r)) y) (sym (meet_is t run k u v))
+          (met_alike (state_at_end s l) (state_at_end s r) (state_at_end t u) (state_at_end t v) (ended_alike l u left) (ended_alike r v right)))
 
     -- one level of forks more
     level_alike : (n : ℕ) → GoAlike (run_on s n) (run_on t n) → GoAlike (run_on s (suc n)) (run_on t (suc n))

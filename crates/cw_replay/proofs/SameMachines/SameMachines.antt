@@ -15,7 +15,7 @@ use Rattle.cw_tree.specs.declared.conflict.Conflict.{Conflict}
 use Rattle.cw_tree.specs.Names.{name_of}
 use Rattle.cw_tree.specs.Refusals.{telling}
 use Rattle.cw_serial.specs.declared.ends.SerialEnd.TheVariants as last
-use Rattle.cw_serial.specs.StrandTree.{at, put, ended}
+use Rattle.cw_serial.specs.StrandTree.{at, put, state_at_end}
 use Rattle.cw_serial.specs.Wants.{answer_to, memory_after, outputs_after, blocks_after, since_after}
 use Rattle.cw_serial.specs.Machine.{Begun, Machine, same_name, may_pick, does, pick_at, pick, initial, has_ended, steps_down, stands_at, end_of_strand, end_of_named, machine_shows, play}
 use Rattle.cw_serial.proofs.PuttingBack.{Fits, memory_fits, since_fits}
@@ -134,7 +134,7 @@ module _ {A B : Type 0} (s : Strands A) (t : Strands B) (same : WantTheSame s t)
   -- ## What is seen of the machines
 
   same_ended : (m : Machine A) (n : Machine B) → HoldTheSame m n → has_ended s m ≡ has_ended t n
-  same_ended m n h = by _ (ended s m.strands) (ended t n.strands) (ended_alike s t same m.strands n.strands h.strands) where
+  same_ended m n h = by _ (state_at_end s m.strands) (state_at_end t n.strands) (ended_alike s t same m.strands n.strands h.strands) where
     by : (Is : A → B → Type 0) (o : Option A) (u : Option B) → BothOrNeither Is o u → is_some o ≡ is_some u
     by Is None None one = refl
     by Is (Some a) (Some b) one = refl

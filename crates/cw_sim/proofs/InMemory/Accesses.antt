@@ -23,7 +23,7 @@ use Rattle.cw_core.specs.declared.event.Reply.TheVariants as reply
 use Rattle.cw_core.specs.State.{CoreState, spent}
 use Rattle.cw_core.specs.Events.{fits, after_event, reply_to, is_met, met_by, next}
 use Rattle.cw_core.specs.Laws.{IsCore}
-use Rattle.cw_sim.specs.Workers.{Simulation, changed}
+use Rattle.cw_sim.specs.Workers.{Simulation, changed_at}
 use Rattle.cw_sim.specs.Moves.{does, given_for, meets_cell, stops_if_spent, accesses}
 use Rattle.cw_sim.specs.Kept.{CoreGoesOn}
 use Rattle.cw_sim.specs.Laws.{NamesCell}
@@ -154,7 +154,7 @@ module _ (c : Driver) (x cell : ℕ) (write : Option ℤ) (z : Seen) (may : MayD
         let Q : Given → Type 0 = λ g. StandsFor d (answered x g (record z { m = does e z.m })) in
         let R : Want → Type 0 = λ w. IsAnswer (law_of z).elements w (given_for write v) in
         subst P (sym replied) (
-          changed x ((law_of z).answer (z.m.at x) (given_for write v)) z.there,
+          changed_at x ((law_of z).answer (z.m.at x) (given_for write v)) z.there,
           (
             subst Q is stands,
             access_inside (law_of z) k.machine.first z.m on z.there may.step.steady.inside x may.step.running may.step.ready cell write (given_for write v) fit unmet conflicts may.alive

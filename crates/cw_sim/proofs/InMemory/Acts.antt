@@ -25,7 +25,7 @@ use Rattle.cw_job.specs.Room.Strands.{StrandState}
 use Rattle.cw_job.specs.Room.Saves.{IsSavedOf}
 use Rattle.cw_sim.specs.Kept.{CoreGoesOn}
 use Rattle.cw_sim.specs.Moves.{does, answers, gives_up}
-use Rattle.cw_sim.specs.Workers.{tree, changed}
+use Rattle.cw_sim.specs.Workers.{tree, changed_at}
 use Rattle.cw_sim.specs.ThingsInMemory.{thing_at}
 use Rattle.cw_sim.specs.InMemory.{Seen, StandsFor, Comes, MayStep, MayDo, MayAnswer, law_of, answered}
 use Rattle.cw_sim.specs.declared.moves.Driver.{Driver}
@@ -117,7 +117,7 @@ module _ (c : Driver) (x : ℕ) (z : Seen) (may : MayDo c x want.Cancel z) where
       let P : Want → Type 0 = λ w. IsAnswer (law_of z).elements w (Back back) in
       let Q : List PutBack → Type 0 = λ l. StandsFor d (answered x (Back l) (record z { m = does (event.Cancel x) z.m })) in
       let wanted = may.wanted in (
-        changed x ((law_of z).answer (z.m.at x) (Back back)) z.there,
+        changed_at x ((law_of z).answer (z.m.at x) (Back back)) z.there,
         (
           subst Q (told r list is replied) stands,
           cancel_inside (law_of z) z.m.core.machine.first z.m may.step.steady.core z.there may.step.steady.inside x may.step.running may.step.ready gives_up_fits may.alive (subst P (sym wanted) named)
@@ -145,7 +145,7 @@ module _ (c : Driver) (x : ℕ) (v : ℤ) (z : Seen) (may : MayDo c x (want.Out 
       let on = may.step.steady.core in
       let P : Want → Type 0 = λ w. IsAnswer (law_of z).elements w Nothing in
       let wanted = may.wanted in (
-        changed x ((law_of z).answer (z.m.at x) Nothing) z.there,
+        changed_at x ((law_of z).answer (z.m.at x) Nothing) z.there,
         (
           stands,
           out_inside (law_of z) z.m.core.machine.first z.m on z.there may.step.steady.inside x may.step.running may.step.ready v

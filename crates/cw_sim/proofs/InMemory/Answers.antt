@@ -11,7 +11,7 @@ use Rattle.cw_strand.specs.Saving.{Kept}
 use Rattle.cw_tree.specs.Nodes.{is_pending}
 use Rattle.cw_core.specs.Laws.{IsCore}
 use Rattle.cw_core.specs.State.{CoreState}
-use Rattle.cw_sim.specs.Workers.{changed, with_strand}
+use Rattle.cw_sim.specs.Workers.{changed_at, with_strand}
 use Rattle.cw_sim.specs.ThingsInMemory.{thing_at, Puts}
 use Rattle.cw_sim.specs.InMemory.{Seen, StandsFor, law_of, has_body, MayAnswer, answered}
 use Rattle.cw_sim.proofs.InMemory.Things.{puts_twice}
@@ -35,7 +35,7 @@ pub changed_stands : (c : Driver) (k : CoreState) (x : ℕ) (z : Seen) (new : Co
     → ((y : ℕ) → y ≢ x → has_body z.m.core y ≡ true → goes_back new.machine y ≡ false → goes_back z.m.core.machine y ≡ false)
     → ((b : ℕ) → is_pending new.machine.tree b ≡ true → (s : Kept) × (thing_at kept b ≡ Some s) × IsSavedOf z.job.program s (saved b))
     → Puts c.bodies x (Some body) bodies → IsOf z.job.program body → state_of body ≡ a
-    → StandsFor (record c { core = k; bodies = bodies; saved = kept }) (record z { m = with_strand x a (record z.m { core = new; saved = saved }); there = changed x a z.there })
+    → StandsFor (record c { core = k; bodies = bodies; saved = kept }) (record z { m = with_strand x a (record z.m { core = new; saved = saved }); there = changed_at x a z.there })
 changed_stands c k x z new kept saved bodies body a old core is_core was back pending puts of is = record {
   job = old.job;
   core = core;
@@ -64,15 +64,15 @@ changed_stands c k x z new kept saved bodies body a old core is_core was back pe
   ];
   saved = pending;
 } where
-  here : (y : ℕ) → y ≡ x → (f : ℕ → StrandState) → a ≡ changed x a f y
-  here y e f = sym (ap (changed x a f) e ∙ changed_here x a f)
+  here : (y : ℕ) → y ≡ x → (f : ℕ → StrandState) → a ≡ changed_at x a f y
+  here y e f = sym (ap (changed_at x a f) e ∙ changed_here x a f)
 
-  like : (y : ℕ) → y ≡ x → StandsAs (state_of body) (changed x a z.there y)
-  like y e = stands_as (state_of body) (changed x a z.there y) (is ∙ here y e z.there)
+  like : (y : ℕ) → y ≡ x → StandsAs (state_of body) (changed_at x a z.there y)
+  like y e = stands_as (state_of body) (changed_at x a z.there y) (is ∙ here y e z.there)
 
 -- strand x alone has another body
 pub puts_body : (c : Driver) (x : ℕ) (z : Seen) (bodies : List (Option Standing)) (body : Standing) (a : StrandState) → StandsFor c z → Puts c.bodies x (Some body) bodies → IsOf z.job.program body → state_of body ≡ a
-    → StandsFor (record c { bodies = bodies }) (record z { m = with_strand x a z.m; there = changed x a z.there })
+    → StandsFor (record c { bodies = bodies }) (record z { m = with_strand x a z.m; there = changed_at x a z.there })
 puts_body c x z bodies body a old =
     changed_stands c c.core x z z.m.core c.saved z.m.saved bodies body a old old.core old.is_core (λ y ne h. h) (λ y ne h g. g) old.saved
 

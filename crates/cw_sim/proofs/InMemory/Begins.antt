@@ -14,12 +14,12 @@ use Rattle.cw_core.specs.State.{CoreState}
 use Rattle.cw_core.specs.Events.{fits, after_event, next}
 use Rattle.cw_core.specs.Laws.{IsCore}
 use Rattle.cw_job.specs.declared.standing.Standing.{Standing}
-use Rattle.cw_job.specs.Jobs.{bare}
+use Rattle.cw_job.specs.Jobs.{bare_job}
 use Rattle.cw_job.specs.Room.Strands.{StrandState, IsOf, state_of, strands_of_job}
 use Rattle.cw_job.specs.Room.Saves.{IsSavedOf}
 use Rattle.cw_job.proofs.Room.Wants.{same_want}
 use Rattle.cw_sim.specs.Moves.{does, begins}
-use Rattle.cw_sim.specs.Workers.{tree, changed}
+use Rattle.cw_sim.specs.Workers.{tree, changed_at}
 use Rattle.cw_sim.specs.ThingsInMemory.{thing_at, Puts}
 use Rattle.cw_sim.specs.Kept.{CoreGoesOn}
 use Rattle.cw_sim.specs.InMemory.{Seen, StandsFor, Comes, IsBody, MayDo, MayAnswer, law_of, answered}
@@ -57,9 +57,9 @@ module _ (c : Driver) (x : ℕ) (z : Seen) (may : MayDo c x Begin z) where
 
   -- where it is after the begin
   abbrev pub begun : Seen
-  begun = record z { m = record (does (event.Begin x) z.m) { saved = changed (length (tree z.m)) (z.m.at x) z.m.saved } }
+  begun = record z { m = record (does (event.Begin x) z.m) { saved = changed_at (length (tree z.m)) (z.m.at x) z.m.saved } }
 
-  module _ (body : Standing) (at : thing_at c.bodies x ≡ Some body) (kept : Kept) (saves : (program : Program) → IsOf program body → (strands_of_job (bare program)).want (state_of body) ≡ Begin → IsSavedOf program kept (state_of body)) where
+  module _ (body : Standing) (at : thing_at c.bodies x ≡ Some body) (kept : Kept) (saves : (program : Program) → IsOf program body → (strands_of_job (bare_job program)).want (state_of body) ≡ Begin → IsSavedOf program kept (state_of body)) where
     is_itself : state_of body ≡ z.m.at x
     is_itself = body_is c z may.step.steady.stands x body (left.running_body k.machine.first k on x may.step.running) (left.running_back k.machine x may.step.running may.alive) at
 
@@ -68,7 +68,7 @@ module _ (c : Driver) (x : ℕ) (z : Seen) (may : MayDo c x Begin z) where
         let program = z.job.program in
         let P : Standing → Type 0 = λ s. IsOf program s in
         let Q : StrandState → Type 0 = λ a. IsSavedOf program kept a in
-        subst Q is_itself (saves program (subst P (some_inj (sym its_body.1 ∙ at)) its_body.2.program) (same_want (bare program) z.job (state_of body) ∙ ap (λ a. (law_of z).want a) is_itself ∙ may.wanted))
+        subst Q is_itself (saves program (subst P (some_inj (sym its_body.1 ∙ at)) its_body.2.program) (same_want (bare_job program) z.job (state_of body) ∙ ap (λ a. (law_of z).want a) is_itself ∙ may.wanted))
 
     -- the strand may be answered then
     pub begin_may : (b : ℕ) (all : List (Option Kept)) (new : CoreState) → b ≡ length c.core.machine.tree → Puts c.saved b (Some kept) all → new ≡ after_event c.core (event.Begin x) → IsCore new.machine.first new
@@ -77,7 +77,7 @@ module _ (c : Driver) (x : ℕ) (z : Seen) (may : MayDo c x Begin z) where
         let node = fresh_node (place k.machine.tree x) Block (next k) in
         let more = begin_more k.machine.first k on x may.step.running may.step.ready in
         let fresh : b ≡ length k.machine.tree = next_is ∙ ap (λ s. length s.machine.tree) may.step.steady.stands.core in
-        let after_saved = changed (length k.machine.tree) (z.m.at x) z.m.saved in
+        let after_saved = changed_at (length k.machine.tree) (z.m.at x) z.m.saved in
         left_may c x z may.step new (event.Begin x) is core all after_saved may.alive (more_left k now (left.whole k.machine.first k on) node more)
         (left.dying_more k.machine.first k on (event.Begin x) begin_fit node more refl)
         (λ n e. elim (pending_more k now node more n e) [
@@ -97,7 +97,7 @@ module _ (c : Driver) (x : ℕ) (z : Seen) (may : MayDo c x Begin z) where
   -- and it stands for the move once it is
   pub begin_comes : (d : Driver) → StandsFor d (answered x Nothing begun) → Comes d z (begins (law_of z) x z.m)
   begin_comes d stands = (
-    changed x ((law_of z).answer (z.m.at x) Nothing) z.there,
+    changed_at x ((law_of z).answer (z.m.at x) Nothing) z.there,
     (
       stands,
       begin_inside (law_of z) k.machine.first z.m on z.there may.step.steady.inside x may.step.running may.step.ready begin_fit may.alive may.wanted,

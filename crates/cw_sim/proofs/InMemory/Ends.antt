@@ -17,7 +17,7 @@ use Rattle.cw_core.specs.Events.{fits, after_event, next}
 use Rattle.cw_core.specs.Laws.{IsCore}
 use Rattle.cw_job.specs.Room.Saves.{IsSavedOf}
 use Rattle.cw_sim.specs.Moves.{does, answers}
-use Rattle.cw_sim.specs.Workers.{tree, changed}
+use Rattle.cw_sim.specs.Workers.{tree, changed_at}
 use Rattle.cw_sim.specs.ThingsInMemory.{thing_at, Puts}
 use Rattle.cw_sim.specs.Kept.{CoreGoesOn}
 use Rattle.cw_sim.specs.InMemory.{Seen, StandsFor, Comes, MayStep, MayDo, MayAnswer, law_of, answered}
@@ -75,7 +75,7 @@ module _ (c : Driver) (x : ℕ) (z : Seen) (may : MayDo c x End z) where
   pub end_comes : (d : Driver) → StandsFor d (answered x Nothing (record z { m = does (event.Commit x) z.m })) → Comes d z (answers (law_of z) x Nothing (does (event.Commit x) z.m))
   end_comes d stands =
       let P : Want → Type 0 = λ w. IsAnswer (law_of z).elements w Nothing in (
-        changed x ((law_of z).answer (z.m.at x) Nothing) z.there,
+        changed_at x ((law_of z).answer (z.m.at x) Nothing) z.there,
         (
           stands,
           commit_inside (law_of z) k.machine.first z.m on z.there may.step.steady.inside x may.step.running may.step.ready end_fits may.alive end_within may.wanted (subst P (sym may.wanted) tt),

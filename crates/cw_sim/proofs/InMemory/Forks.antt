@@ -17,12 +17,12 @@ use Rattle.cw_core.proofs.Events.Going.{well}
 use Rattle.cw_core.proofs.Events.Kept.{events}
 use Rattle.cw_code.specs.declared.program.Program.{Program}
 use Rattle.cw_job.specs.declared.standing.Standing.{Standing}
-use Rattle.cw_job.specs.Jobs.{Job, bare, job_of_task}
+use Rattle.cw_job.specs.Jobs.{Job, bare_job, job_of_task}
 use Rattle.cw_job.specs.Room.Strands.{StrandState, IsOf, state_of, strands_of_job}
 use Rattle.cw_job.specs.Room.Saves.{StandsAs}
 use Rattle.cw_job.proofs.Room.Backs.{stands_as_it}
 use Rattle.cw_job.proofs.Room.Wants.{same_want}
-use Rattle.cw_sim.specs.Workers.{Worker, left_node, right_node, changed, with_fork, worker_in}
+use Rattle.cw_sim.specs.Workers.{Worker, left_node, right_node, changed_at, with_fork, worker_in}
 use Rattle.cw_sim.specs.Moves.{forks}
 use Rattle.cw_sim.specs.Kept.{CoreGoesOn}
 use Rattle.cw_sim.specs.Inside.{goes_back, HasInside}
@@ -106,8 +106,8 @@ module _ (c : Driver) (w x : ℕ) (z : Seen) (may : MayFork c w x z) where
     pub body_stands_there : IsOf c.task.program.now body
     body_stands_there = let P : Program → Type 0 = λ p. IsOf p body in subst P (sym program_is) is_body.program
 
-    pub body_forks : (strands_of_job (bare c.task.program.now)).want (state_of body) ≡ Fork
-    body_forks = same_want (bare c.task.program.now) z.job (state_of body) ∙ ap (law_of z).want stood ∙ may.fork.wanted
+    pub body_forks : (strands_of_job (bare_job c.task.program.now)).want (state_of body) ≡ Fork
+    body_forks = same_want (bare_job c.task.program.now) z.job (state_of body) ∙ ap (law_of z).want stood ∙ may.fork.wanted
 
     pub is_left : (b : Standing) → ((job : Job) → job.program ≡ c.task.program.now → state_of b ≡ (strands_of_job job).left (state_of body)) → state_of b ≡ left
     is_left b e = e z.job (sym program_is) ∙ ap (law_of z).left stood
@@ -139,10 +139,10 @@ module _ (c : Driver) (w x : ℕ) (z : Seen) (may : MayFork c w x z) where
       (takes : Puts c.bodies x None first) (puts_left : Puts first (left_node fork) (Some l) second) (puts_right : Puts second (right_node fork) (Some r) new.bodies)
       (left_at : state_of l ≡ left) (right_at : state_of r ≡ right) (left_of_program : IsOf c.task.program.now l) (right_of_program : IsOf c.task.program.now r) where
     abbrev at : ℕ → StrandState
-    at = changed (left_node n) left (changed (right_node n) right z.m.at)
+    at = changed_at (left_node n) left (changed_at (right_node n) right z.m.at)
 
     abbrev there : ℕ → StrandState
-    there = changed (left_node n) left (changed (right_node n) right z.there)
+    there = changed_at (left_node n) left (changed_at (right_node n) right z.there)
 
     abbrev after_it : Seen
     after_it = record z { m = forks (law_of z) w x z.m; there = there }
@@ -161,7 +161,7 @@ module _ (c : Driver) (w x : ℕ) (z : Seen) (may : MayFork c w x z) where
     old_body : (y : ℕ) → y < n → (b : Standing) → IsBody z y b → IsBody after_it y b
     old_body y low b h =
         let same = inside.back_old (law_of z) m.first k on x step.running core z.m.at z.m.saved z.there step.steady.inside may.fork.alive may.fork.wanted y in
-        let set : (f : ℕ → StrandState) → changed (left_node n) left (changed (right_node n) right f) y ≡ f y = λ f. inside.set_old (law_of z) m.first k on x step.running core z.m.at z.m.saved z.there step.steady.inside may.fork.alive may.fork.wanted f y low in
+        let set : (f : ℕ → StrandState) → changed_at (left_node n) left (changed_at (right_node n) right f) y ≡ f y = λ f. inside.set_old (law_of z) m.first k on x step.running core z.m.at z.m.saved z.there step.steady.inside may.fork.alive may.fork.wanted f y low in
         let P : StrandState → Type 0 = λ t. StandsAs (state_of b) t in
         record { program = h.program; at = λ e. h.at (sym same ∙ e) ∙ sym (set z.m.at); like = subst P (sym (set z.there)) h.like }
 
@@ -180,10 +180,10 @@ module _ (c : Driver) (w x : ℕ) (z : Seen) (may : MayFork c w x z) where
     right_place : thing_at new.bodies (right_node n) ≡ Some r
     right_place = ap (λ f. thing_at new.bodies (right_node f)) (sym fork_is) ∙ put_here second new.bodies (right_node fork) (Some r) puts_right
 
-    set_left : (f : ℕ → StrandState) → changed (left_node n) left (changed (right_node n) right f) (left_node n) ≡ left
+    set_left : (f : ℕ → StrandState) → changed_at (left_node n) left (changed_at (right_node n) right f) (left_node n) ≡ left
     set_left f = inside.set_left (law_of z) m.first k on x step.running core z.m.at z.m.saved z.there step.steady.inside may.fork.alive may.fork.wanted f
 
-    set_right : (f : ℕ → StrandState) → changed (left_node n) left (changed (right_node n) right f) (right_node n) ≡ right
+    set_right : (f : ℕ → StrandState) → changed_at (left_node n) left (changed_at (right_node n) right f) (right_node n) ≡ right
     set_right f = inside.set_right (law_of z) m.first k on x step.running core z.m.at z.m.saved z.there step.steady.inside may.fork.alive may.fork.wanted f
 
     bodies_after : (y : ℕ) → has_body (after_event k (event.Fork x)) y ≡ true → (b : Standing) × (thing_at new.bodies y ≡ Some b) × IsBody after_it y b

@@ -17,7 +17,7 @@ use Rattle.cw_job.specs.Jobs.{Job, job_of_task}
 use Rattle.cw_job.specs.Room.Strands.{StrandState, IsOf, state_of, strands_of_job}
 use Rattle.cw_job.specs.Room.Saves.{StandsAs}
 use Rattle.cw_job.proofs.Room.Backs.{stands_as_it}
-use Rattle.cw_sim.specs.Workers.{left_node, right_node, changed, worker_in}
+use Rattle.cw_sim.specs.Workers.{left_node, right_node, changed_at, worker_in}
 use Rattle.cw_sim.specs.Moves.{joins}
 use Rattle.cw_sim.specs.Kept.{CoreGoesOn}
 use Rattle.cw_sim.specs.Inside.{HasInside}
@@ -170,7 +170,7 @@ module _ (c : Driver) (w f : ℕ) (z : Seen) (may : MayJoin c w f z) where
       (takes_left : Puts c.bodies (left_node f) None first) (takes_right : Puts first (right_node f) None second) (puts : Puts second parent (Some body) new.bodies)
       (workers : workers_of new.workers.items ≡ slice_set (workers_of c.workers.items) w (record (worker_in (workers_of c.workers.items) w) { runs = Some parent })) where
     abbrev there : ℕ → StrandState
-    there = changed p is.here z.there
+    there = changed_at p is.here z.there
 
     abbrev after_it : Seen
     after_it = record z { m = joins (law_of z) w f z.m; there = there }

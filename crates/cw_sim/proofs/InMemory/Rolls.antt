@@ -14,7 +14,7 @@ use Rattle.cw_job.specs.declared.standing.Standing.{Standing}
 use Rattle.cw_job.specs.Room.Strands.{IsOf, state_of}
 use Rattle.cw_job.specs.Room.Saves.{IsSavedOf, MayRollBack}
 use Rattle.cw_sim.specs.Moves.{does}
-use Rattle.cw_sim.specs.Workers.{changed, with_strand}
+use Rattle.cw_sim.specs.Workers.{changed_at, with_strand}
 use Rattle.cw_sim.specs.ThingsInMemory.{thing_at, Puts}
 use Rattle.cw_sim.specs.Kept.{CoreGoesOn}
 use Rattle.cw_sim.specs.InMemory.{Seen, Comes, IsBody, MayRoll, law_of}
@@ -99,7 +99,7 @@ module _ (c : Driver) (x : ℕ) (z : Seen) (may : MayRoll c x z) where
         let is_left : IsLeft k.machine now.machine = shut_left k now (left.whole k.machine.first k on) p Aborted (next k) shut in
         let is_now : new ≡ now = is ∙ ap (λ s. after_event s (event.Roll x)) may.step.steady.stands.core in
         let P : CoreState → Type 0 = λ s. IsCore s.machine.first s in (
-          changed x (z.m.saved p) z.there,
+          changed_at x (z.m.saved p) z.there,
           (
             changed_stands c new x z now rest z.m.saved bodies body (z.m.saved p) may.step.steady.stands is_now (subst P is_now core)
                 (λ y ne. left.body_was k now is_left y)

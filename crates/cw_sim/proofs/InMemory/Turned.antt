@@ -10,13 +10,13 @@ use Rattle.cw_core.specs.Events.{after_event}
 use Rattle.cw_sim.specs.Workers.{left_node, right_node, worker, worker_in}
 use Rattle.cw_sim.specs.Moves.{does, takes_back, joins, goes_to_right}
 use Rattle.cw_sim.specs.InMemory.{Seen, law_of, Comes, IsSteady, MayJoin, MayTurn}
-use Rattle.cw_sim.specs.WorkersInMemory.{workers_of, without}
+use Rattle.cw_sim.specs.WorkersInMemory.{workers_of, without_waiting}
 use Rattle.cw_sim.specs.declared.moves.Driver.{Driver}
 use Rattle.cw_sim.proofs.InMemory.Finished.{finish_done, finish_steady}
 use Rattle.cw_sim.proofs.InMemory.Working.{run_stands, back_stands}
 
 module _ (c : Driver) (w f : ℕ) (dead : Bool) (z : Seen) (may : MayTurn c w f dead z) (took : Driver)
-    (takes : workers_of took.workers.items ≡ slice_set (workers_of c.workers.items) w (without f (worker_in (workers_of c.workers.items) w))) where
+    (takes : workers_of took.workers.items ≡ slice_set (workers_of c.workers.items) w (without_waiting f (worker_in (workers_of c.workers.items) w))) where
   abbrev k : CoreState
   k = z.m.core
 
@@ -50,7 +50,7 @@ module _ (c : Driver) (w f : ℕ) (dead : Bool) (z : Seen) (may : MayTurn c w f 
       both_join = record {
         meet = record {
           steady = finish_steady back y back_steady (right_node f) true (may.died is).fits (λ alive. (may.died is).stays) new (core ∙ ap (λ b. after_event c.core (event.Finish (right_node f) b)) is);
-          there = (let n = length-set z.m.workers w (without f (worker z.m w)) in let low = may.meet.there in omega (arith, n, low));
+          there = (let n = length-set z.m.workers w (without_waiting f (worker z.m w)) in let low = may.meet.there in omega (arith, n, low));
           fork = may.meet.fork;
           joined = may.meet.joined;
         };

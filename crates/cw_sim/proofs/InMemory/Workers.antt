@@ -9,7 +9,7 @@ use Rattle.cw_tree.specs.Nodes.{below}
 use Rattle.cw_tree.specs.Walks.{has}
 use Rattle.cw_tree.proofs.Lists.{get_map_below}
 use Rattle.cw_sim.specs.Workers.{Worker, idle, worker_in}
-use Rattle.cw_sim.specs.WorkersInMemory.{IsLast, without, worker_of, workers_of, first_with_forks, workers_next}
+use Rattle.cw_sim.specs.WorkersInMemory.{IsLast, without_waiting, worker_of, workers_of, first_with_forks, workers_next}
 use Rattle.cw_sim.specs.declared.worker.Worker.{Worker as InMemory}
 
 -- ## One fork less
@@ -31,7 +31,7 @@ has_none : (xs ys : List ℕ) (f : ℕ) → has (xs ++ ys) f ≡ false → (has 
 has_none xs ys f e = let both = sym (list_any-append (λ m. m == f) xs ys) ∙ e in or_parts (has xs f) (has ys f) both
 
 -- the fork that waits last is last in the inline ones, or where there are none in the deque
-pub last_inline : (w : Worker) (f g : ℕ) (rest : List ℕ) → IsLast w f → w.inline ≡ rest ++ g ∷ [] → without f w ≡ record w { inline = rest }
+pub last_inline : (w : Worker) (f g : ℕ) (rest : List ℕ) → IsLast w f → w.inline ≡ rest ++ g ∷ [] → without_waiting f w ≡ record w { inline = rest }
 last_inline w f g rest last e =
     let split : (w.deque ++ rest) ++ g ∷ [] ≡ last.before ++ f ∷ [] = append_assoc w.deque rest (g ∷ []) ∙ ap (λ ys. w.deque ++ ys) (sym e) ∙ last.all in
     let two = same_from_push (w.deque ++ rest) last.before g f split in
@@ -40,7 +40,7 @@ last_inline w f g rest last e =
     ap (λ ds. record w { deque = ds; inline = filter (λ h. not (h == f)) w.inline }) (without_none f w.deque apart.0)
     ∙ ap (λ is. record w { inline = is }) (ap (filter (λ h. not (h == f))) (e ∙ ap (λ h. rest ++ h ∷ []) two.1) ∙ without_last f rest apart.1)
 
-pub last_deque : (w : Worker) (f g : ℕ) (rest : List ℕ) → IsLast w f → w.inline ≡ [] → w.deque ≡ rest ++ g ∷ [] → without f w ≡ record w { deque = rest }
+pub last_deque : (w : Worker) (f g : ℕ) (rest : List ℕ) → IsLast w f → w.inline ≡ [] → w.deque ≡ rest ++ g ∷ [] → without_waiting f w ≡ record w { deque = rest }
 last_deque w f g rest last none e =
     let split : rest ++ g ∷ [] ≡ last.before ++ f ∷ [] = sym e ∙ sym (append-nil w.deque) ∙ ap (λ is. w.deque ++ is) (sym none) ∙ last.all in
     let two = same_from_push rest last.before g f split in

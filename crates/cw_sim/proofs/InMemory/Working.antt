@@ -5,7 +5,7 @@ use Rattle.std.proofs.lemmas.List.{length-map}
 use Rattle.cw_sim.specs.Workers.{Worker, worker, worker_in, with_run}
 use Rattle.cw_sim.specs.Moves.{takes_back}
 use Rattle.cw_sim.specs.InMemory.{Seen, StandsFor}
-use Rattle.cw_sim.specs.WorkersInMemory.{worker_of, workers_of, without}
+use Rattle.cw_sim.specs.WorkersInMemory.{worker_of, workers_of, without_waiting}
 use Rattle.cw_sim.specs.declared.moves.Driver.{Driver}
 
 module _ (c : Driver) (z : Seen) (held : StandsFor c z) where
@@ -33,6 +33,6 @@ module _ (c : Driver) (z : Seen) (held : StandsFor c z) where
   run_stands new w r e = with_workers new (slice_set z.m.workers w (record (worker z.m w) { runs = r })) (e ∙ ap (λ ws. slice_set ws w (record (worker_in ws w) { runs = r })) held.workers)
 
   -- fork f no more waits in it
-  pub back_stands : (new : Driver) (w f : ℕ) → workers_of new.workers.items ≡ slice_set (workers_of c.workers.items) w (without f (worker_in (workers_of c.workers.items) w))
+  pub back_stands : (new : Driver) (w f : ℕ) → workers_of new.workers.items ≡ slice_set (workers_of c.workers.items) w (without_waiting f (worker_in (workers_of c.workers.items) w))
       → StandsFor (record c { workers = new.workers }) (record z { m = takes_back w f z.m })
-  back_stands new w f e = with_workers new (slice_set z.m.workers w (without f (worker z.m w))) (e ∙ ap (λ ws. slice_set ws w (without f (worker_in ws w))) held.workers)
+  back_stands new w f e = with_workers new (slice_set z.m.workers w (without_waiting f (worker z.m w))) (e ∙ ap (λ ws. slice_set ws w (without_waiting f (worker_in ws w))) held.workers)

@@ -19,7 +19,7 @@ use Rattle.cw_open.proofs.Refused.Victims.{IsToldState, told_states}
 use Rattle.cw_open.specs.Runs.{at_once}
 use Rattle.cw_core.specs.State.{CoreState}
 use Rattle.cw_core.specs.Laws.{IsCore}
-use Rattle.cw_sim.specs.Workers.{changed}
+use Rattle.cw_sim.specs.Workers.{changed_at}
 use Rattle.cw_sim.specs.Kept.{CoreGoesOn}
 use Rattle.cw_sim.specs.Inside.{HasOneOpenFork, IsRightOf, goes_back, GoesBackIn, AreInside}
 use Rattle.cw_sim.proofs.Inside.Kept.{changed_here, changed_other}
@@ -80,14 +80,14 @@ module _ {A : Type 0} (s : Strands A) (first : List ℤ) (k z : CoreState) (on :
     -- a free strand is answered
     pub answered : (given : Given) → is_dying m x ≡ false → is_dying u x ≡ false
         → ((b n : ℕ) → is_pending u.tree b ≡ true → IsRightOf m.tree n x (strand_of m.tree b) → (inner : ℕ) × Inside s (saved b) n inner (s.answer (at x) given))
-        → AreInside s u (changed x (s.answer (at x) given) at) saved (changed x (s.answer (at x) given) there)
+        → AreInside s u (changed_at x (s.answer (at x) given) at) saved (changed_at x (s.answer (at x) given) there)
     answered given free still inside =
         let a = s.answer (at x) given in
-        steps s m u tree nested on.forks left x running at saved there (changed x a at) saved (changed x a there) old
+        steps s m u tree nested on.forks left x running at saved there (changed_at x a at) saved (changed_at x a there) old
         (record { others_at = changed_other x a at; others_there = changed_other x a there; dying = others; pend = λ b e. inl (was b e) })
         (record {
           same = λ e. changed_here x a there ∙ sym (changed_here x a at);
-          lives = λ b n e pending w right. inside_to s (saved b) (saved b) n a (changed x a at x) refl (changed_here x a at) (inside b n pending (own_as b n pending right));
+          lives = λ b n e pending w right. inside_to s (saved b) (saved b) n a (changed_at x a at x) refl (changed_here x a at) (inside b n pending (own_as b n pending right));
           back = λ b n e. absurd (cc (e, still));
           blocks = λ q b n e new. absurd (none_new q e new);
           begins = λ q e new. absurd (none_new q e new);
@@ -110,7 +110,7 @@ module _ {A : Type 0} (s : Strands A) (first : List ℤ) (k z : CoreState) (on :
         })
 
     -- it rolls back its innermost block, and stands at the begin of that
-    pub rolled : is_pending m.tree p ≡ true → is_pending u.tree p ≡ false → AreInside s u (changed x (saved p) at) saved (changed x (saved p) there)
+    pub rolled : is_pending m.tree p ≡ true → is_pending u.tree p ≡ false → AreInside s u (changed_at x (saved p) at) saved (changed_at x (saved p) there)
     rolled pend_p shut_p =
         let a = saved p in
         let here = stands m tree nested x running in
@@ -126,11 +126,11 @@ module _ {A : Type 0} (s : Strands A) (first : List ℤ) (k z : CoreState) (on :
             | inr ne ↦ absurd (here.last b (omega arith) (fewer b pending) (sym same))
           ]
         ])) in
-        steps s m u tree nested on.forks left x running at saved there (changed x a at) saved (changed x a there) old
+        steps s m u tree nested on.forks left x running at saved there (changed_at x a at) saved (changed_at x a there) old
         (record { others_at = changed_other x a at; others_there = changed_other x a there; dying = others; pend = λ b e. inl (was b e) })
         (record {
           same = λ e. changed_here x a there ∙ sym (changed_here x a at);
-          lives = λ b n e pending w right. inside_to s (saved b) (saved b) n a (changed x a at x) refl (changed_here x a at) (around b n pending right);
+          lives = λ b n e pending w right. inside_to s (saved b) (saved b) n a (changed_at x a at x) refl (changed_here x a at) (around b n pending right);
           back = λ b n e pending w right.
               (let (inner, inside) = around b n pending right in
               let R : A → Type 0 = λ c. GoesBackIn s (saved b) c in
@@ -148,9 +148,9 @@ module _ {A : Type 0} (s : Strands A) (first : List ℤ) (k z : CoreState) (on :
     a = s.answer (at x) Nothing
 
     abbrev after : ℕ → A
-    after = changed q (at x) saved
+    after = changed_at q (at x) saved
 
-    pends : (b : ℕ) → is_pending u.tree b ≡ true → Pends s m u tree nested on.forks left x running at saved there (changed x a at) after (changed x a there) old b
+    pends : (b : ℕ) → is_pending u.tree b ≡ true → Pends s m u tree nested on.forks left x running at saved there (changed_at x a at) after (changed_at x a there) old b
     pends b e = elim (split b e) [
       | inl w ↦ inl (record { low = w.0; pending = w.1; saved_as = changed_other q (at x) saved b (λ same. (let low = w.0 in omega (arith, same, fresh))) })
       | inr same ↦ inr (record { past = omega (arith, same, fresh); own = ap (strand_of u.tree) same ∙ own })
@@ -176,9 +176,9 @@ module _ {A : Type 0} (s : Strands A) (first : List ℤ) (k z : CoreState) (on :
     old_inside : (b n : ℕ) → WasPending m saved after b → IsRightOf m.tree n x (strand_of u.tree b) → (inner : ℕ) × Inside s (after b) n inner (at x)
     old_inside b n w right = inside_to s (saved b) (after b) n (at x) (at x) w.saved_as refl (x_inside free b n w.pending (right_to b n w.low right))
 
-    pub begins_in : AreInside s u (changed x a at) after (changed x a there)
+    pub begins_in : AreInside s u (changed_at x a at) after (changed_at x a there)
     begins_in =
-        steps s m u tree nested on.forks left x running at saved there (changed x a at) after (changed x a there) old
+        steps s m u tree nested on.forks left x running at saved there (changed_at x a at) after (changed_at x a there) old
         (record { others_at = changed_other x a at; others_there = changed_other x a there; dying = λ y st ne. others y; pend = pends })
         (record {
           same = λ e. changed_here x a there ∙ sym (changed_here x a at);
@@ -186,14 +186,14 @@ module _ {A : Type 0} (s : Strands A) (first : List ℤ) (k z : CoreState) (on :
             | inl was ↦
                 (let (inner, inside) = old_inside b n was right in
                 let P : Rattle.cw_strand.specs.declared.want.Want.Want → Type 0 = λ v. IsAnswer s.elements v Nothing in
-                inside_to s (after b) (after b) n a (changed x a at x) refl (changed_here x a at)
+                inside_to s (after b) (after b) n a (changed_at x a at x) refl (changed_here x a at)
                 (goes_on s (after b) n inner (at x) Nothing inside (subst P (sym begins) tt) (λ end. cc (end, begins))))
             | inr new ↦
                 (let same = is_new b new pending in
                 let P : ℕ → Type 0 = λ c. IsRightOf m.tree n x c in
                 let none = no_forks n (subst P new.own right) in
-                let Q : ℕ → Type 0 = λ j. (inner : ℕ) × Inside s (after b) j inner (changed x a at x) in
-                subst Q (sym none) (inside_to s (at x) (after b) 0 a (changed x a at x) (ap after same ∙ changed_here q (at x) saved) (changed_here x a at) (0, begun)))
+                let Q : ℕ → Type 0 = λ j. (inner : ℕ) × Inside s (after b) j inner (changed_at x a at x) in
+                subst Q (sym none) (inside_to s (at x) (after b) 0 a (changed_at x a at x) (ap after same ∙ changed_here q (at x) saved) (changed_here x a at) (0, begun)))
           ];
           back = λ b n e. absurd (let f = free in cc (e, others x, f));
           blocks = λ c b n e new pending w right less. (let same = is_new c new e in

@@ -25,8 +25,8 @@ use Rattle.cw_open.proofs.Laws.Named.{strand_is}
 use Rattle.cw_open.proofs.Open.Standing.{open_over, open_block, stands}
 use Rattle.cw_open.proofs.Open.Staying.{Stays, above_stays}
 use Rattle.cw_open.proofs.Refused.Victims.{IsTold, IsToldState, victim_above}
+use Rattle.cw_open.proofs.Open.Kinds.{unjoined_open}
 use Rattle.cw_sim.specs.Inside.{HasOneOpenFork}
-use Rattle.cw_sim.proofs.Kept.PlacedRunning.{unjoined_open}
 use Rattle.cw_sim.proofs.Inside.Waits.{going, over_waits, stands_waits}
 
 -- why strand y is dying: a conflict beneath it, and its victim

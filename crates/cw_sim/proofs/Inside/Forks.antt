@@ -32,7 +32,7 @@ use Rattle.cw_core.specs.State.{CoreState}
 use Rattle.cw_core.specs.Events.{after_event, next}
 use Rattle.cw_core.specs.Laws.{IsCore}
 use Rattle.cw_core.proofs.Events.Places.{waits_grown, waits_for}
-use Rattle.cw_sim.specs.Workers.{left_node, right_node, changed}
+use Rattle.cw_sim.specs.Workers.{left_node, right_node, changed_at}
 use Rattle.cw_sim.specs.Kept.{CoreGoesOn}
 use Rattle.cw_sim.proofs.Kept.Halves.{left_child}
 use Rattle.cw_sim.specs.Inside.{HasOneOpenFork, IsRightOf, goes_back, LivesIn, GoesBackIn, AreInside}
@@ -194,16 +194,16 @@ module _ {A : Type 0} (s : Strands A) (first : List ℤ) (k : CoreState) (on : C
   r = s.right (at x)
 
   abbrev set : (ℕ → A) → ℕ → A
-  set f = changed (left_node n) l (changed (right_node n) r f)
+  set f = changed_at (left_node n) l (changed_at (right_node n) r f)
 
   pub set_old : (f : ℕ → A) (y : ℕ) → y < n → set f y ≡ f y
-  set_old f y low = changed_other (left_node n) l (changed (right_node n) r f) y (λ e. omega (arith, e, low)) ∙ changed_other (right_node n) r f y (λ e. omega (arith, e, low))
+  set_old f y low = changed_other (left_node n) l (changed_at (right_node n) r f) y (λ e. omega (arith, e, low)) ∙ changed_other (right_node n) r f y (λ e. omega (arith, e, low))
 
   pub set_left : (f : ℕ → A) → set f (left_node n) ≡ l
-  set_left f = changed_here (left_node n) l (changed (right_node n) r f)
+  set_left f = changed_here (left_node n) l (changed_at (right_node n) r f)
 
   pub set_right : (f : ℕ → A) → set f (right_node n) ≡ r
-  set_right f = changed_other (left_node n) l (changed (right_node n) r f) (right_node n) (λ e. omega (arith, e)) ∙ changed_here (right_node n) r f
+  set_right f = changed_other (left_node n) l (changed_at (right_node n) r f) (right_node n) (λ e. omega (arith, e)) ∙ changed_here (right_node n) r f
 
   same : (y : ℕ) → HasOneOpenFork z y → goes_back z y ≡ false → set there y ≡ set at y
   same y st e = elim (which y st) [

@@ -22,14 +22,13 @@ use Rattle.cw_open.proofs.Refused.Fell.{any_one}
 use Rattle.cw_open.proofs.Laws.Named.{strand_is}
 use Rattle.cw_open.proofs.Open.Standing.{open_over}
 use Rattle.cw_open.proofs.Refused.Victims.{IsTold}
-use Rattle.cw_core.proofs.Events.Ordering.{closed_strand}
-use Rattle.cw_sim.specs.Workers.{left_node, right_node, changed}
+use Rattle.cw_open.proofs.Open.Kinds.{finished_shut, unjoined_open}
+use Rattle.cw_sim.specs.Workers.{left_node, right_node, changed_at}
 use Rattle.cw_sim.proofs.Kept.Halves.{AsMade, right_child, right_strand}
 use Rattle.cw_sim.specs.Inside.{HasOneOpenFork, IsRightOf, goes_back, LivesIn, GoesBackIn, AreInside}
 use Rattle.cw_sim.proofs.Inside.Dying.{dies_by, died_by, by_dies, dead_dies}
 use Rattle.cw_sim.proofs.Inside.Kept.{changed_here, changed_other}
 use Rattle.cw_sim.proofs.Inside.Quiet.{lives_to, back_to}
-use Rattle.cw_sim.proofs.Kept.PlacedRunning.{unjoined_open}
 use Rattle.cw_sim.proofs.Inside.Waits.{finished_alone}
 
 module _ {A : Type 0} (s : Strands A) (first : List ℤ) (m : OpenMachine) (w : IsBackedState first m) (made : AsMade m.tree) (f : ℕ) (fork : is_fork m.tree f ≡ true) (apart : has m.joined f ≡ false) (done : has_finished m (right_node f) ≡ true)
@@ -60,7 +59,7 @@ module _ {A : Type 0} (s : Strands A) (first : List ℤ) (m : OpenMachine) (w : 
   p_open = let low = fork_there t f fork in open_over m tree nested p f low (strand_over t tree.rooted f low) (unjoined_open m f fork apart)
 
   unfinished : has_finished m p ≡ false
-  unfinished = false_from_ne_true (has_finished m p) (λ e. absurd (let c = closed_strand m p (strand_is t tree.root f) e in let o = p_open in cc (c, o)))
+  unfinished = false_from_ne_true (has_finished m p) (λ e. absurd (let c = finished_shut m p (strand_is t tree.root f) e in let o = p_open in cc (c, o)))
 
   p_back : (b : Bool) → is_dying m p ≡ b → goes_back m p ≡ b
   p_back true e = ap (λ d. d || finished_dead m p) e
@@ -133,28 +132,28 @@ module _ {A : Type 0} (s : Strands A) (first : List ℤ) (m : OpenMachine) (w : 
   p_dies : goes_back u p ≡ true → is_dying m p ≡ true
   p_dies e = elim (cases_Bool (is_dying m p)) [ inl d ↦ d | inr d ↦ absurd (let o = p_back false d in cc (e, o)) ]
 
-  same : (x : ℕ) → HasOneOpenFork u x → goes_back u x ≡ false → changed p here there x ≡ changed p a at x
+  same : (x : ℕ) → HasOneOpenFork u x → goes_back u x ≡ false → changed_at p here there x ≡ changed_at p a at x
   same x st e = elim (cases_eq x p) [
-    | inl q ↦ ap (changed p here there) q ∙ changed_here p here there ∙ joined (p_free (ap (goes_back u) (sym q) ∙ e)) ∙ sym (ap (changed p a at) q ∙ changed_here p a at)
+    | inl q ↦ ap (changed_at p here there) q ∙ changed_here p here there ∙ joined (p_free (ap (goes_back u) (sym q) ∙ e)) ∙ sym (ap (changed_at p a at) q ∙ changed_here p a at)
     | inr ne ↦ changed_other p here there x ne ∙ old.same x (was x ne st) e ∙ sym (changed_other p a at x ne)
   ]
 
-  lives : (x b n : ℕ) → HasOneOpenFork u x → goes_back u x ≡ false → is_pending t b ≡ true → IsRightOf t n x (strand_of t b) → LivesIn s (has_finished m x) (saved b) n (changed p a at x)
+  lives : (x b n : ℕ) → HasOneOpenFork u x → goes_back u x ≡ false → is_pending t b ≡ true → IsRightOf t n x (strand_of t b) → LivesIn s (has_finished m x) (saved b) n (changed_at p a at x)
   lives x b n st e pending right = elim (cases_eq x p) [
     | inl q ↦
         (let P : ℕ → Type 0 = λ c. IsRightOf t n c (strand_of t b) in
-        lives_to s (has_finished m p) (has_finished m x) (saved b) (saved b) n a (changed p a at x) (ap (has_finished m) q) refl (ap (changed p a at) q ∙ changed_here p a at)
+        lives_to s (has_finished m p) (has_finished m x) (saved b) (saved b) n a (changed_at p a at x) (ap (has_finished m) q) refl (ap (changed_at p a at) q ∙ changed_here p a at)
         (at_p b n (p_free (ap (goes_back u) (sym q) ∙ e)) pending (subst P q right)))
-    | inr ne ↦ lives_to s (has_finished m x) (has_finished m x) (saved b) (saved b) n (at x) (changed p a at x) refl refl (changed_other p a at x ne) (old.lives x b n (was x ne st) e pending right)
+    | inr ne ↦ lives_to s (has_finished m x) (has_finished m x) (saved b) (saved b) n (at x) (changed_at p a at x) refl refl (changed_other p a at x ne) (old.lives x b n (was x ne st) e pending right)
   ]
 
-  back : (x b n : ℕ) → HasOneOpenFork u x → goes_back u x ≡ true → is_pending t b ≡ true → IsRightOf t n x (strand_of t b) → GoesBackIn s (saved b) (changed p here there x)
+  back : (x b n : ℕ) → HasOneOpenFork u x → goes_back u x ≡ true → is_pending t b ≡ true → IsRightOf t n x (strand_of t b) → GoesBackIn s (saved b) (changed_at p here there x)
   back x b n st e pending right = elim (cases_eq x p) [
     | inl q ↦
         (let P : ℕ → Type 0 = λ c. IsRightOf t n c (strand_of t b) in
-        back_to s (saved b) (saved b) (there y) (changed p here there x) refl (ap (changed p here there) q ∙ changed_here p here there ∙ goes (p_dies (ap (goes_back u) (sym q) ∙ e))) (there_p b n pending (subst P q right)))
-    | inr ne ↦ back_to s (saved b) (saved b) (there x) (changed p here there x) refl (changed_other p here there x ne) (old.back x b n (was x ne st) e pending right)
+        back_to s (saved b) (saved b) (there y) (changed_at p here there x) refl (ap (changed_at p here there) q ∙ changed_here p here there ∙ goes (p_dies (ap (goes_back u) (sym q) ∙ e))) (there_p b n pending (subst P q right)))
+    | inr ne ↦ back_to s (saved b) (saved b) (there x) (changed_at p here there x) refl (changed_other p here there x ne) (old.back x b n (was x ne st) e pending right)
   ]
 
-  pub both_joined : AreInside s u (changed p a at) saved (changed p here there)
+  pub both_joined : AreInside s u (changed_at p a at) saved (changed_at p here there)
   both_joined = record { same = same; lives = lives; back = back; blocks = old.blocks; begins = old.begins }

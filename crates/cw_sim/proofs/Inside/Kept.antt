@@ -16,16 +16,16 @@ use Rattle.cw_open.specs.Machine.{OpenMachine, is_dying}
 use Rattle.cw_open.proofs.Open.Staying.{Stays, closed_stays}
 use Rattle.cw_open.proofs.Refused.Victims.{IsTold, IsToldState}
 use Rattle.cw_core.specs.State.{CoreState}
-use Rattle.cw_sim.specs.Workers.{changed}
+use Rattle.cw_sim.specs.Workers.{changed_at}
 use Rattle.cw_sim.proofs.Inside.Dying.{Dies, dies_by, dies_on, dies_back}
 use Rattle.cw_sim.proofs.Inside.Quiet.{IsLeft}
 use Rattle.cw_sim.proofs.Kept.Leaves.{IsMore, more_ways, more_waits}
 use Rattle.cw_sim.proofs.Kept.Shuts.{IsShut, shut_waits}
 
-pub changed_here : {A : Type 0} (x : ℕ) (a : A) (f : ℕ → A) → changed x a f x ≡ a
+pub changed_here : {A : Type 0} (x : ℕ) (a : A) (f : ℕ → A) → changed_at x a f x ≡ a
 changed_here x a f = ap (λ b. cond b a (f x)) (eq-eqb x x refl)
 
-pub changed_other : {A : Type 0} (x : ℕ) (a : A) (f : ℕ → A) (y : ℕ) → y ≢ x → changed x a f y ≡ f y
+pub changed_other : {A : Type 0} (x : ℕ) (a : A) (f : ℕ → A) (y : ℕ) → y ≢ x → changed_at x a f y ≡ f y
 changed_other x a f y ne = ap (λ b. cond b a (f y)) (ne_eqb y x ne)
 
 -- ## Strands and forks

@@ -37,7 +37,7 @@ use Rattle.cw_core.specs.State.{CoreState, waits_for_left}
 use Rattle.cw_core.specs.Events.{fits, after_event, is_met, met_by, next}
 use Rattle.cw_core.specs.Laws.{IsCore}
 use Rattle.cw_core.proofs.Events.Kept.{events}
-use Rattle.cw_sim.specs.Workers.{Simulation, left_node, right_node, changed, with_strand}
+use Rattle.cw_sim.specs.Workers.{Simulation, left_node, right_node, changed_at, with_strand}
 use Rattle.cw_sim.specs.Moves.{does, answers, begins, gives_up}
 use Rattle.cw_sim.specs.Kept.{CoreGoesOn}
 use Rattle.cw_sim.proofs.Kept.After.{conflicts_after}
@@ -105,7 +105,7 @@ module _ {A : Type 0} (s : Strands A) (first : List ℤ) (m : Simulation A) (on 
         fewer b f = elim (pending_more k z node is b f) [ inl w ↦ w.1 | inr w ↦ absurd (let q = w.1 in cc (q, plain)) ]
 
         pub leaf : z.machine.conflicts ≡ mm.conflicts → is_dying mm x ≡ false → (given : Given) → IsAnswer s.elements (s.want (m.at x)) given → (s.want (m.at x) ≡ End → ⊥)
-            → AreInside s z.machine (changed x (s.answer (m.at x) given) m.at) m.saved (changed x (s.answer (m.at x) given) there)
+            → AreInside s z.machine (changed_at x (s.answer (m.at x) given) m.at) m.saved (changed_at x (s.answer (m.at x) given) there)
         leaf conflicts free given answer off =
             let same : (y : ℕ) → is_dying z.machine y ≡ is_dying mm y = λ y. dying_same first mm z.machine told now left.stays (λ b low f. fewer b f) y (λ c b t among d. more_pending k z node is b d.pending) conflicts in
             acts.answered s first k z on core left x running m.at m.saved there old fewer (λ y st ne. same y) given free (same x ∙ free)
@@ -114,12 +114,12 @@ module _ {A : Type 0} (s : Strands A) (first : List ℤ) (m : Simulation A) (on 
 
     -- an output
     pub out_inside : (v : ℤ) → fits k (event.Out x v) ≡ true → is_dying mm x ≡ false → IsAnswer s.elements (s.want (m.at x)) Nothing → (s.want (m.at x) ≡ End → ⊥)
-        → HasInside s (answers s x Nothing (does (event.Out x v) m)) (changed x (s.answer (m.at x) Nothing) there)
+        → HasInside s (answers s x Nothing (does (event.Out x v) m)) (changed_at x (s.answer (m.at x) Nothing) there)
     out_inside v fit free answer off = leaf (event.Out x v) fit (fresh_node p (Out v) (next k)) (out_more first k on x running ready v) refl refl free Nothing answer off
 
     -- a block is given up
     pub cancel_inside : fits k (event.Cancel x) ≡ true → is_dying mm x ≡ false → IsAnswer s.elements (s.want (m.at x)) (Back (puts_back mm x (next k))) → (s.want (m.at x) ≡ End → ⊥)
-        → HasInside s (gives_up s x m) (changed x (s.answer (m.at x) (Back (puts_back mm x (next k)))) there)
+        → HasInside s (gives_up s x m) (changed_at x (s.answer (m.at x) (Back (puts_back mm x (next k)))) there)
     cancel_inside fit free answer off =
         leaf (event.Cancel x) fit (fresh_node p (Cancel (puts_back mm x (next k))) (next k)) (cancel_more first k on x running ready) refl refl free (Back (puts_back mm x (next k))) answer off
 
@@ -130,7 +130,7 @@ module _ {A : Type 0} (s : Strands A) (first : List ℤ) (m : Simulation A) (on 
     -- an access that is made
     pub access_inside : (c : ℕ) (w : Option ℤ) (given : Given) → fits k (event.Access x c w) ≡ true → is_met k x c ≡ false → (after_event k (event.Access x c w)).machine.conflicts ≡ mm.conflicts
         → is_dying mm x ≡ false → IsAnswer s.elements (s.want (m.at x)) given → (s.want (m.at x) ≡ End → ⊥)
-        → HasInside s (answers s x given (does (event.Access x c w) m)) (changed x (s.answer (m.at x) given) there)
+        → HasInside s (answers s x given (does (event.Access x c w) m)) (changed_at x (s.answer (m.at x) given) there)
     access_inside c w given fit met conflicts free answer off =
         leaf (event.Access x c w) fit (fresh_node p (access_kind c w (live_value mm c)) (next k)) (access_more first k on x running ready c w met)
         (Rattle.std.proofs.lemmas.Bool.and_left (is_block_kind (access_kind c w (live_value mm c))) _ (access_plain c w (live_value mm c))) conflicts free given answer off
@@ -158,7 +158,7 @@ module _ {A : Type 0} (s : Strands A) (first : List ℤ) (m : Simulation A) (on 
         cc (w, alone))) free off
 
     -- a block begins
-    pub begin_inside : fits k (event.Begin x) ≡ true → is_dying mm x ≡ false → s.want (m.at x) ≡ Begin → HasInside s (begins s x m) (changed x (s.answer (m.at x) Nothing) there)
+    pub begin_inside : fits k (event.Begin x) ≡ true → is_dying mm x ≡ false → s.want (m.at x) ≡ Begin → HasInside s (begins s x m) (changed_at x (s.answer (m.at x) Nothing) there)
     begin_inside fit free wants =
         let e = event.Begin x in
         let node = fresh_node p Block (next k) in
@@ -198,7 +198,7 @@ module _ {A : Type 0} (s : Strands A) (first : List ℤ) (m : Simulation A) (on 
 
     -- the end of its block
     pub commit_inside : fits k (event.Commit x) ≡ true → is_dying mm x ≡ false → in_block mm x ≡ true → s.want (m.at x) ≡ End → IsAnswer s.elements (s.want (m.at x)) Nothing
-        → HasInside s (answers s x Nothing (does (event.Commit x) m)) (changed x (s.answer (m.at x) Nothing) there)
+        → HasInside s (answers s x Nothing (does (event.Commit x) m)) (changed_at x (s.answer (m.at x) Nothing) there)
     commit_inside fit free within wants answer =
         let e = event.Commit x in
         let is = commit_shut first k on x running ready in
@@ -224,7 +224,7 @@ module _ {A : Type 0} (s : Strands A) (first : List ℤ) (m : Simulation A) (on 
               elim (cases_lt b p) [ inl less ↦ less | inr le ↦ absurd ((stands mm tree nested x running).last b (omega (arith, le, ne)) pending (sym same)) ]
 
     -- it rolls its innermost block back
-    pub roll_inside : fits k (event.Roll x) ≡ true → rolls_back mm x ≡ true → in_block mm x ≡ true → HasInside s (with_strand x (m.saved p) (does (event.Roll x) m)) (changed x (m.saved p) there)
+    pub roll_inside : fits k (event.Roll x) ≡ true → rolls_back mm x ≡ true → in_block mm x ≡ true → HasInside s (with_strand x (m.saved p) (does (event.Roll x) m)) (changed_at x (m.saved p) there)
     roll_inside fit rolls within =
         let e = event.Roll x in
         let is = roll_shut first k on x running ready rolls in
@@ -237,7 +237,7 @@ module _ {A : Type 0} (s : Strands A) (first : List ℤ) (m : Simulation A) (on 
     -- it forks
     pub fork_inside : fits k (event.Fork x) ≡ true → is_dying mm x ≡ false → s.want (m.at x) ≡ ForkWant
         → let n = length mm.tree in
-        HasInside s (with_strand (left_node n) (s.left (m.at x)) (with_strand (right_node n) (s.right (m.at x)) (does (event.Fork x) m))) (changed (left_node n) (s.left (m.at x)) (changed (right_node n) (s.right (m.at x)) there))
+        HasInside s (with_strand (left_node n) (s.left (m.at x)) (with_strand (right_node n) (s.right (m.at x)) (does (event.Fork x) m))) (changed_at (left_node n) (s.left (m.at x)) (changed_at (right_node n) (s.right (m.at x)) there))
     fork_inside fit free wants = forked s first k on x running (events first k (event.Fork x) on.core fit).1 m.at m.saved there old free wants
 
   -- a strand finishes, live or dead
@@ -247,5 +247,5 @@ module _ {A : Type 0} (s : Strands A) (first : List ℤ) (m : Simulation A) (on 
   -- the strands of a fork are joined: where the strand that forked is dying, it stands where the right one stood
   pub join_inside : (f : ℕ) → is_fork mm.tree f ≡ true → has mm.joined f ≡ false → has_finished mm (right_node f) ≡ true → (here : A)
       → (is_dying mm (strand_of mm.tree f) ≡ true → here ≡ there (right_node f)) → (is_dying mm (strand_of mm.tree f) ≡ false → here ≡ s.joined (m.at (right_node f)) (m.at (left_node f)))
-      → HasInside s (with_strand (strand_of mm.tree f) (s.joined (m.at (right_node f)) (m.at (left_node f))) (does (event.Join f) m)) (changed (strand_of mm.tree f) here there)
+      → HasInside s (with_strand (strand_of mm.tree f) (s.joined (m.at (right_node f)) (m.at (left_node f))) (does (event.Join f) m)) (changed_at (strand_of mm.tree f) here there)
   join_inside f fork apart done here goes joined = both_joined s first mm (backed_states at_once first mm on.core.reached) on.forks f fork apart done m.at m.saved there old here goes joined

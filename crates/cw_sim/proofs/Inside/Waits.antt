@@ -17,11 +17,10 @@ use Rattle.cw_tree.proofs.NodeKinds.{fork_no_strand}
 use Rattle.cw_open.specs.Machine.{OpenMachine, has_finished, waits, is_running}
 use Rattle.cw_open.specs.Open.{is_open, AreNested}
 use Rattle.cw_open.proofs.Open.Standing.{open_over, pending_open}
-use Rattle.cw_core.proofs.Events.Ordering.{closed_strand}
+use Rattle.cw_open.proofs.Open.Kinds.{finished_shut, unjoined_open, open_unjoined}
 use Rattle.cw_core.proofs.Events.Places.{waits_for}
 use Rattle.cw_sim.specs.Workers.{right_node}
-use Rattle.cw_sim.proofs.Kept.Halves.{AsMade, open_unjoined, strand_open, right_child}
-use Rattle.cw_sim.proofs.Kept.PlacedRunning.{unjoined_open}
+use Rattle.cw_sim.proofs.Kept.Halves.{AsMade, strand_open, right_child}
 use Rattle.cw_sim.specs.Inside.{HasOneOpenFork, IsRightOf}
 
 -- what a running strand is
@@ -184,4 +183,4 @@ module _ (m : OpenMachine) (tree : IsTree m.tree) (nested : AreNested m.tree (is
       let P : ℕ → Type 0 = λ n. is_ancestor t n a.0 ≡ true in
       let over = subst P (eqb-true (strand_of t a.0) y c.1) (strand_over t r a.0 low) in
       let open_y = open_over m tree nested y a.0 low over (unjoined_open m a.0 c.0 (not-true (has m.joined a.0) b.1)) in
-      absurd (cc (open_y, closed_strand m y is done)))
+      absurd (cc (open_y, finished_shut m y is done)))

@@ -17,6 +17,7 @@ use Rattle.cw_open.proofs.Open.Standing.{runs}
 use Rattle.cw_core.specs.declared.event.Event.TheVariants as event
 use Rattle.cw_tree.proofs.Walks.There.{fork_there}
 use Rattle.cw_tree.proofs.NodeKinds.{fork_no_strand}
+use Rattle.cw_open.proofs.Open.Kinds.{finished_shut}
 use Rattle.cw_core.specs.State.{CoreState, is_split, waits_for_left}
 use Rattle.cw_core.specs.Events.{fits, after_event}
 use Rattle.cw_core.specs.Laws.{IsCore}
@@ -90,7 +91,7 @@ module _ (first : List ℤ) (k : CoreState) (on : CoreGoesOn first k) (x : ℕ) 
       let P : ℕ → Type 0 = λ n. parent_of t n ≡ f in
       let Q : ℕ → Type 0 = λ n. waits_for_left k n ≡ false in
       let finished = left_done k on.forks (right_node f) f up w.fork refl (subst Q (sym q) ready) w.split in
-      let shut = Rattle.cw_core.proofs.Events.Ordering.closed_strand m (left_node f) (left_strand t tree on.forks f w.fork) finished in
+      let shut = finished_shut m (left_node f) (left_strand t tree on.forks f w.fork) finished in
       absurd (cc (open_left, shut))
 
   -- what waits in a worker that runs a strand is a fork around it

@@ -1,20 +1,15 @@
 -- The two strands of a fork.
-use Rattle.std.proofs.Common.{◌≡◌, ℕ, ◌<◌, List, [], ◌∷◌, length, refl, sym, ◌∙◌, subst, arith, true, false, inl, inr}
-use Rattle.std.specs.Prelude.{◌⊎◌, ◌&&◌, ◌||◌, not}
-use Rattle.std.proofs.lemmas.Bool.{and_parts, or_cases, not-true}
+use Rattle.std.proofs.Common.{◌≡◌, ℕ, ◌<◌, List, [], ◌∷◌, length, refl, sym, ◌∙◌, subst, arith, true, inl, inr}
+use Rattle.std.specs.Prelude.{◌⊎◌}
 use Rattle.cw_tree.specs.declared.node.Node.{Node}
 use Rattle.cw_tree.specs.Nodes.{parent_of, is_strand, is_fork}
-use Rattle.cw_tree.specs.Walks.{has}
 use Rattle.cw_tree.specs.Series.{children}
 use Rattle.cw_tree.specs.Names.{is_right}
 use Rattle.cw_tree.specs.Shape.{IsTree}
 use Rattle.cw_tree.proofs.Lists.{In}
 use Rattle.cw_tree.proofs.Walks.Kin.{fork_child}
 use Rattle.cw_tree.proofs.InOrder.DepthFirst.{child_is, IsChild, child_in}
-use Rattle.cw_tree.proofs.NodeKinds.{fork_no_strand, fork_no_block, pending_block}
 use Rattle.cw_trace.proofs.Keeps.Sides.{right_of as is_right_of}
-use Rattle.cw_open.specs.Machine.{OpenMachine, has_finished}
-use Rattle.cw_open.specs.Open.{is_open}
 pub use Rattle.cw_open.proofs.LeftFirst.Meeting.{strand_open}
 use Rattle.cw_sim.specs.Workers.{left_node, right_node}
 
@@ -46,16 +41,3 @@ module _ (t : List Node) (tree : IsTree t) (made : AsMade t) (f : ℕ) (fork : i
 
   pub right_is : is_right t (right_node f) ≡ true
   right_is = is_right_of t tree (left_node f) (right_node f) left_child.some (omega arith) left_strand (left_child.parent ∙ sym right_child.parent)
-
--- a fork that is open was not joined
-pub open_unjoined : (m : OpenMachine) (f : ℕ) → is_fork m.tree f ≡ true → is_open m f ≡ true → has m.joined f ≡ false
-open_unjoined m f fork e =
-    let t = m.tree in
-    let pending = Rattle.cw_tree.specs.Nodes.is_pending t f in
-    elim (or_cases (is_strand t f && not (has_finished m f) || is_fork t f && not (has m.joined f)) pending e) [
-      | inr z ↦ absurd (cc (pending_block t f z, fork_no_block t f fork))
-      | inl z ↦ elim (or_cases (is_strand t f && not (has_finished m f)) (is_fork t f && not (has m.joined f)) z) [
-        | inl y ↦ absurd (cc ((and_parts (is_strand t f) (not (has_finished m f)) y).0, fork_no_strand t f fork))
-        | inr y ↦ not-true (has m.joined f) (and_parts (is_fork t f) (not (has m.joined f)) y).1
-      ]
-    ]

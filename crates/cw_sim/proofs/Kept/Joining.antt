@@ -16,13 +16,13 @@ use Rattle.cw_open.proofs.Open.Standing.{runs, open_over}
 use Rattle.cw_core.specs.declared.event.Event.TheVariants as event
 use Rattle.cw_tree.proofs.Walks.There.{fork_there, strand_there}
 use Rattle.cw_tree.proofs.NodeKinds.{fork_no_strand}
+use Rattle.cw_open.proofs.Open.Kinds.{finished_shut, unjoined_open}
 use Rattle.cw_core.specs.State.{CoreState, has_columns, is_split, waits_for_left}
 use Rattle.cw_core.specs.Events.{fits, after_event}
 use Rattle.cw_core.specs.Laws.{IsCore}
 use Rattle.cw_core.proofs.Events.Going.{well}
 use Rattle.cw_core.proofs.Events.Kept.{events}
 use Rattle.cw_core.proofs.Events.OneFork.{one_fork}
-use Rattle.cw_core.proofs.Events.Ordering.{closed_strand, open_fork}
 use Rattle.cw_core.proofs.Kept.PartsGrow.{none_spent}
 use Rattle.cw_sim.specs.Workers.{Worker, waiting, right_node}
 use Rattle.cw_sim.specs.Kept.{Runs, Fits, CoreGoesOn, forks_around}
@@ -100,13 +100,13 @@ module _ (first : List ℤ) (k : CoreState) (on : CoreGoesOn first k) (f : ℕ) 
   p_strand = strand_is t tree.root f
 
   f_open : is_open m f ≡ true
-  f_open = open_fork k (well first k on.core) on.core.joined on.core.left_first on.core.stands f fork unjoined
+  f_open = unjoined_open k.machine f fork unjoined
 
   over : is_ancestor t p f ≡ true
   over = strand_over t tree.rooted f f_low
 
   unfinished : has_finished m p ≡ false
-  unfinished = false_from_ne_true (has_finished m p) (λ e. absurd (let o = open_over m tree (well first k on.core).nested p f f_low over f_open in let c = closed_strand m p p_strand e in cc (o, c)))
+  unfinished = false_from_ne_true (has_finished m p) (λ e. absurd (let o = open_over m tree (well first k on.core).nested p f f_low over f_open in let c = finished_shut m p p_strand e in cc (o, c)))
 
   -- no other fork of it is to be joined
   alone : waits z.machine p ≡ false
@@ -115,7 +115,7 @@ module _ (first : List ℤ) (k : CoreState) (on : CoreGoesOn first k) (f : ℕ) 
       let b = and_parts (is_fork t a.0 && nat_eq (strand_of t a.0) p) (not (has z.machine.joined a.0)) a.2 in
       let c = and_parts (is_fork t a.0) (nat_eq (strand_of t a.0) p) b.0 in
       let apart = not-true (has z.machine.joined a.0) b.1 in
-      let open_a = open_fork k (well first k on.core) on.core.joined on.core.left_first on.core.stands a.0 c.0 (fewer a.0 apart) in
+      let open_a = unjoined_open k.machine a.0 c.0 (fewer a.0 apart) in
       let one = one_fork m tree (well first k on.core).nested a.0 f c.0 fork open_a f_open (eqb-true (strand_of t a.0) p c.1) in
       let own = or_left (nat_eq f a.0) (has m.joined a.0) (eq-eqb f a.0 (sym one)) in
       absurd (cc (own, apart)))

@@ -21,9 +21,9 @@ use Rattle.cw_open.specs.Open.{is_open}
 use Rattle.cw_open.proofs.Laws.Named.{strand_is}
 use Rattle.cw_open.proofs.Open.Standing.{pending_open, open_block, open_last}
 use Rattle.cw_open.proofs.Open.Trees.{IsWell}
+use Rattle.cw_open.proofs.Open.Kinds.{unjoined_open}
 use Rattle.cw_core.proofs.Events.OneFork.{not_parallel}
 use Rattle.cw_core.proofs.Events.Places.{place_is}
-use Rattle.cw_sim.proofs.Kept.PlacedRunning.{unjoined_open}
 
 module _ (m : OpenMachine) (w : IsWell m) (f : ℕ) (fork : is_fork m.tree f ≡ true) (unjoined : has m.joined f ≡ false) where
   abbrev t : List Node

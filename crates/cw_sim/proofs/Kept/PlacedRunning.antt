@@ -1,10 +1,10 @@
 -- Where a running strand stands, and one that is open no more.
 use Rattle.std.proofs.Common.{◌≡◌, ◌≢◌, ℕ, ◌<◌, List, length, subst, true, false, inl, inr, nat_eq}
 use Rattle.std.specs.Prelude.{◌&&◌, ◌||◌, not}
-use Rattle.std.proofs.lemmas.Bool.{and_parts, and_from, or_left, or_right, eqb-true, not-true, not_from_false, false_from_ne_true}
+use Rattle.std.proofs.lemmas.Bool.{and_parts, eqb-true, not-true, false_from_ne_true}
 use Rattle.cw_strand.specs.Strands.{Strands}
 use Rattle.cw_tree.specs.declared.node.Node.{Node}
-use Rattle.cw_tree.specs.Nodes.{parent_of, is_strand, is_fork, is_block, is_pending, all_nodes}
+use Rattle.cw_tree.specs.Nodes.{parent_of, is_strand, is_fork, is_block, all_nodes}
 use Rattle.cw_tree.specs.Walks.{has, is_ancestor}
 use Rattle.cw_tree.specs.Series.{strand_of, place}
 use Rattle.cw_tree.specs.Shape.{IsTree}
@@ -16,18 +16,13 @@ use Rattle.cw_open.specs.Machine.{OpenMachine, has_finished, is_running, waits}
 use Rattle.cw_open.specs.Open.{is_open}
 use Rattle.cw_open.proofs.Open.Standing.{runs, stands, stands_at, place_open, pending_open, open_over}
 use Rattle.cw_open.proofs.Open.Trees.{IsWell, stands_well}
+use Rattle.cw_open.proofs.Open.Kinds.{unjoined_open, open_unjoined}
 use Rattle.cw_core.proofs.Events.OneFork.{none_within}
 use Rattle.cw_sim.specs.Workers.{Simulation, tree}
 use Rattle.cw_sim.specs.Kept.{AreStanding}
-use Rattle.cw_sim.proofs.Kept.Halves.{open_unjoined, strand_open}
+use Rattle.cw_sim.proofs.Kept.Halves.{strand_open}
 use Rattle.cw_sim.proofs.Kept.StatesKept.{AllStates, MayChange}
 use Rattle.cw_sim.proofs.Kept.PlacedKept.{current_from}
-
--- a fork that was not joined is open
-pub unjoined_open : (m : OpenMachine) (f : ℕ) → is_fork m.tree f ≡ true → has m.joined f ≡ false → is_open m f ≡ true
-unjoined_open m f fork off =
-    or_left (is_strand m.tree f && not (has_finished m f) || is_fork m.tree f && not (has m.joined f)) (is_pending m.tree f)
-    (or_right (is_strand m.tree f && not (has_finished m f)) (is_fork m.tree f && not (has m.joined f)) (and_from (is_fork m.tree f) (not (has m.joined f)) fork (not_from_false (has m.joined f) off)))
 
 module _ (m : OpenMachine) (w : IsWell m) where
   abbrev t : List Node

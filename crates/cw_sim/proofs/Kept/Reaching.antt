@@ -180,10 +180,6 @@ module _ {A : Type 0} (s : Strands A) (t : List Node) (before after reached : �
       by_parent t tree.rooted (λ n. Reached s (levels t n) (enters n)) root_reached
       (λ n some low up. elim (cases_Bool (is_fork t (parent_of t n))) [ inl fork ↦ in_strand n some low up fork | inr other ↦ in_home n some low up other ])
 
-  -- before a node of a strand or block
-  pub before_reached : (n : ℕ) → 0 < n → n < length t → is_fork t (parent_of t n) ≡ false → Reached s (levels t (parent_of t n)) (before n)
-  before_reached n some low other = let less = tree.rooted n some low in comes n some low (entered_reached (parent_of t n) (omega arith)) other
-
   -- at the end of a node that has no open fork there
   pub end_reached : (n : ℕ) → n < length t → (is_strand t n || is_block t n) ≡ true → HasNoOpenFork s t before after reached n → Reached s (levels t n) (reached n)
   end_reached n low is none = further n low (enters n) (reached n) (entered_reached n low) (through s t before after reached tree f cells are named n low is none)

@@ -26,7 +26,7 @@ use Rattle.cw_record.specs.Coherent.{InSeries, IsWanted, entered}
 use Rattle.cw_record.proofs.Coherent.AddedStates.{state_same, state_other}
 use Rattle.cw_record.proofs.Coherent.KeptStates.{does_same}
 use Rattle.cw_record.proofs.Coherent.States.{DoesAs}
-use Rattle.cw_sim.specs.Workers.{Simulation, changed, tree}
+use Rattle.cw_sim.specs.Workers.{Simulation, changed_at, tree}
 use Rattle.cw_sim.specs.Kept.{AreStanding, HasStates}
 use Rattle.cw_sim.proofs.Kept.StatesKept.{AllStates, Stay, MayChange, AreNew, closed_by, states_kept, series_with_new}
 use Rattle.cw_sim.proofs.Kept.PlacedKept.{Elsewhere, AreHere, current_is, standing_kept}
@@ -71,7 +71,7 @@ module _ {A : Type 0} (s : Strands A) (m : Simulation A) (w : IsWell m.core.mach
   z = with_leaf m o kind st now kept
 
   abbrev y : AllStates A
-  y = record { before = changed g (m.at o) x.before; after = changed g b x.after; reached = changed g v (changed p b x.reached) }
+  y = record { before = changed_at g (m.at o) x.before; after = changed_at g b x.after; reached = changed_at g v (changed_at p b x.reached) }
 
   shape : IsTree t
   shape = w.sound.tree
@@ -89,7 +89,7 @@ module _ {A : Type 0} (s : Strands A) (m : Simulation A) (w : IsWell m.core.mach
   past n low e = omega (arith, e)
 
   reached_place : y.reached p ≡ b
-  reached_place = state_other (changed p b x.reached) g v p (past p there) ∙ state_same x.reached p b
+  reached_place = state_other (changed_at p b x.reached) g v p (past p there) ∙ state_same x.reached p b
 
   stays : Stay m.core.machine z.core.machine x y p g
   stays = record {
@@ -101,7 +101,7 @@ module _ {A : Type 0} (s : Strands A) (m : Simulation A) (w : IsWell m.core.mach
     finished = refl;
     before = λ n low. state_other x.before g (m.at o) n (past n low);
     after = λ n low ne. state_other x.after g b n ne;
-    reached = λ n low ne. state_other (changed p b x.reached) g v n (past n low) ∙ state_other x.reached p b n ne;
+    reached = λ n low ne. state_other (changed_at p b x.reached) g v n (past n low) ∙ state_other x.reached p b n ne;
   }
 
   -- it is no strand, and a block just where its kind is
@@ -127,7 +127,7 @@ module _ {A : Type 0} (s : Strands A) (m : Simulation A) (w : IsWell m.core.mach
         ap (λ i. cond i (s.answer (y.before g) Nothing) (y.before g)) e
         ∙ ap (λ i. s.answer i Nothing) (state_same x.before g (m.at o))
         ∙ sym (within (sym block_here ∙ e))
-        ∙ sym (state_same (changed p b x.reached) g v)
+        ∙ sym (state_same (changed_at p b x.reached) g v)
 
     none_in : children u g ≡ []
     none_in = children_other t new g shape.some (λ e. past p there e) ∙ children_none t shape.rooted g (omega arith)
@@ -143,7 +143,7 @@ module _ {A : Type 0} (s : Strands A) (m : Simulation A) (w : IsWell m.core.mach
         let P : Node → Type 0 = λ i. IsWanted s u y.before y.after y.reached g i.kind i.state in
         subst P (same_Some new n (sym (get_next t new []) ∙ is))
         (wanted_by s u y.before y.after y.reached g kind (first_state kind) plain.1
-        (does_same s (m.at o) b v (y.before g) (y.after g) (y.reached g) kind (first_state kind) (state_same x.before g (m.at o)) (state_same x.after g b) (state_same (changed p b x.reached) g v) does))
+        (does_same s (m.at o) b v (y.before g) (y.after g) (y.reached g) kind (first_state kind) (state_same x.before g (m.at o)) (state_same x.after g b) (state_same (changed_at p b x.reached) g v) does))
 
     are_new : AreNew s m.core.machine z.core.machine y p g
     are_new = record {
@@ -175,7 +175,7 @@ module _ {A : Type 0} (s : Strands A) (m : Simulation A) (w : IsWell m.core.mach
     stands_here : (block : Bool) → is_block_kind kind ≡ block → now o ≡ cond block v b → y.reached (place u o) ≡ now o
     stands_here true e at =
         ap y.reached (place_begun t (new ∷ []) shape.rooted o g len (and_from (is_pending u g) (nat_eq (strand_of u g) o) (pending_here ∙ e) (eq-eqb (strand_of u g) o own_new)))
-        ∙ state_same (changed p b x.reached) g v ∙ sym at
+        ∙ state_same (changed_at p b x.reached) g v ∙ sym at
     stands_here false e at =
         ap y.reached (place_grown t (new ∷ []) shape.rooted o (λ i le l. ap (is_begun_in u o) (is_new i le l) ∙ and_left (is_pending u g) (nat_eq (strand_of u g) o) (pending_here ∙ e)))
         ∙ reached_place ∙ sym at

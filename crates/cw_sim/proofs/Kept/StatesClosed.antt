@@ -27,7 +27,7 @@ use Rattle.cw_core.proofs.Kept.RowsClose.{open_block, there, low, blocks, childr
 use Rattle.cw_record.specs.Coherent.{IsClosed, IsWanted}
 use Rattle.cw_record.proofs.Coherent.AddedStates.{state_same, state_other}
 use Rattle.cw_record.proofs.Coherent.States.{Closes}
-use Rattle.cw_sim.specs.Workers.{Simulation, changed, tree}
+use Rattle.cw_sim.specs.Workers.{Simulation, changed_at, tree}
 use Rattle.cw_sim.specs.Kept.{CoreGoesOn, AreStanding, HasStates}
 use Rattle.cw_sim.proofs.Kept.StatesKept.{AllStates, Stay, MayChange, AreNew, closed_by, states_kept, series_with_last}
 use Rattle.cw_sim.proofs.Kept.PlacedKept.{Elsewhere, AreHere, current_is, standing_kept}
@@ -57,7 +57,7 @@ module _ {A : Type 0} (s : Strands A) (first : List ℤ) (m : Simulation A) (on 
   z = with_closed m o state end now
 
   abbrev y : AllStates A
-  y = record { before = x.before; after = changed c b x.after; reached = changed p b x.reached }
+  y = record { before = x.before; after = changed_at c b x.after; reached = changed_at p b x.reached }
 
   w : IsWell m.core.machine
   w = well first m.core on.core

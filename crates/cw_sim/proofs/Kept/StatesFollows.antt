@@ -15,12 +15,12 @@ use Rattle.cw_open.proofs.Open.Standing.{stands_at}
 use Rattle.cw_open.proofs.Open.Trees.{IsWell}
 use Rattle.cw_core.specs.declared.event.Event.TheVariants as event
 use Rattle.cw_tree.proofs.Walks.There.{strand_there}
+use Rattle.cw_open.proofs.Open.Kinds.{finished_shut}
 use Rattle.cw_core.specs.State.{CoreState, is_split}
 use Rattle.cw_core.specs.Events.{fits}
 use Rattle.cw_core.proofs.Events.Going.{well}
-use Rattle.cw_core.proofs.Events.Ordering.{closed_strand}
 use Rattle.cw_sim.specs.Workers.{Simulation, left_node, right_node, tree, worker}
-use Rattle.cw_sim.specs.Moves.{does, goes_to_right, meets, finishes}
+use Rattle.cw_sim.specs.Moves.{does, goes_to_right, joins_or_idles, finishes}
 use Rattle.cw_sim.specs.Kept.{Runs, CoreGoesOn, AreStanding, HasStates}
 use Rattle.cw_sim.proofs.Kept.Finishing.{goes, done, takes_right}
 use Rattle.cw_sim.proofs.Laws.Fits.{finish_fits}
@@ -93,7 +93,7 @@ module _ {A : Type 0} (s : Strands A) (first : List ℤ) (m : Simulation A) (on 
     -- a strand of it that has finished stands at what was reached in it
     ended_stands : (h : ℕ) → is_strand t h ≡ true → parent_of t h ≡ f → has_finished n.core.machine h ≡ true → x.reached h ≡ n.at h
     ended_stands h strand above ended =
-        let shut = closed_strand n.core.machine h strand ended in
+        let shut = finished_shut n.core.machine h strand ended in
         ap x.reached (sym (shut_place n.core.machine w_n h strand shut))
         ∙ on_finish.strands h (current_from n.core h strand (λ some. ap (has k.machine.joined) above ∙ unjoined)) (shut_waits n.core.machine w_n h strand shut)
 
@@ -109,11 +109,11 @@ module _ {A : Type 0} (s : Strands A) (first : List ℤ) (m : Simulation A) (on 
     join_stands : x.reached (left_node f) ≡ n.at (left_node f) → x.reached (right_node f) ≡ n.at (right_node f) → AreStanding s (with_joined s n f) joined_n.before joined_n.after joined_n.reached
     join_stands = joined_stands s n w_n on_n.core.joined f fork unjoined (on.forks f fork) x on_finish
 
-    meet_states : (both : Bool) → (has_finished n.core.machine (left_node f) && has_finished n.core.machine (right_node f)) ≡ both → HasStates s (meets s v f both n)
-    meet_states false e = same_states (meets s v f false n) (record { tree = refl; joined = refl; finished = refl; at = λ i. refl; saved = λ b. refl })
+    meet_states : (both : Bool) → (has_finished n.core.machine (left_node f) && has_finished n.core.machine (right_node f)) ≡ both → HasStates s (joins_or_idles s v f both n)
+    meet_states false e = same_states (joins_or_idles s v f false n) (record { tree = refl; joined = refl; finished = refl; at = λ i. refl; saved = λ b. refl })
     meet_states true e =
         let ended = and_parts (has_finished n.core.machine (left_node f)) (has_finished n.core.machine (right_node f)) e in
-        states_alike s (with_joined s n f) (meets s v f true n) (record { tree = refl; joined = refl; finished = refl; at = λ i. refl; saved = λ b. refl })
+        states_alike s (with_joined s n f) (joins_or_idles s v f true n) (record { tree = refl; joined = refl; finished = refl; at = λ i. refl; saved = λ b. refl })
         (joined_n.before, joined_n.after, joined_n.reached, join_stands (left_stands ended.0) (right_stands ended.1))
 
     -- ## A left strand, whose fork was not split
@@ -147,9 +147,9 @@ module _ {A : Type 0} (s : Strands A) (first : List ℤ) (m : Simulation A) (on 
           states_alike s z (goes_to_right s v f true n) (record { tree = refl; joined = refl; finished = refl; at = λ i. refl; saved = λ b. refl })
           (joined_n.before, joined_n.after, joined_n.reached, finished_stands s j (right_node f) true joined_n h (λ e. absurd (cc e)))
 
-    follow_states : HasStates s (cond (nat_eq o (left_node f) && not (is_split n.core f)) (goes_to_right s v f dead n) (meets s v f (has_finished n.core.machine (left_node f) && has_finished n.core.machine (right_node f)) n))
+    follow_states : HasStates s (cond (nat_eq o (left_node f) && not (is_split n.core f)) (goes_to_right s v f dead n) (joins_or_idles s v f (has_finished n.core.machine (left_node f) && has_finished n.core.machine (right_node f)) n))
     follow_states = by (nat_eq o (left_node f) && not (is_split n.core f)) refl where
-      by : (b : Bool) → (nat_eq o (left_node f) && not (is_split n.core f)) ≡ b → HasStates s (cond b (goes_to_right s v f dead n) (meets s v f (has_finished n.core.machine (left_node f) && has_finished n.core.machine (right_node f)) n))
+      by : (b : Bool) → (nat_eq o (left_node f) && not (is_split n.core f)) ≡ b → HasStates s (cond b (goes_to_right s v f dead n) (joins_or_idles s v f (has_finished n.core.machine (left_node f) && has_finished n.core.machine (right_node f)) n))
       by false e = meet_states (has_finished n.core.machine (left_node f) && has_finished n.core.machine (right_node f)) refl
       by true e =
           let c = and_parts (nat_eq o (left_node f)) (not (is_split n.core f)) e in

@@ -25,7 +25,7 @@ use Rattle.cw_core.proofs.Kept.ForkTails.{place_children, fork_children, other_c
 use Rattle.cw_core.proofs.Events.Places.{place_grown, waits_for}
 use Rattle.cw_record.specs.Coherent.{InSeries, IsForkOf, IsWanted, entered}
 use Rattle.cw_record.proofs.Coherent.AddedStates.{state_same, state_other}
-use Rattle.cw_sim.specs.Workers.{Simulation, left_node, right_node, changed, tree}
+use Rattle.cw_sim.specs.Workers.{Simulation, left_node, right_node, changed_at, tree}
 use Rattle.cw_sim.specs.Kept.{AreStanding, HasStates}
 use Rattle.cw_sim.proofs.Kept.StatesKept.{AllStates, Stay, MayChange, AreNew, states_kept, series_with_new}
 use Rattle.cw_sim.proofs.Kept.PlacedKept.{Elsewhere, AreHere, current_is, standing_kept}
@@ -33,7 +33,7 @@ use Rattle.cw_sim.proofs.Kept.PlacedRunning.{running_place, running_own, running
 
 -- strand o forks: the strands of fork g stand so, and all others as in f
 abbrev pub halves : {A : Type 0} → Strands A → (g : ℕ) → A → (ℕ → A) → ℕ → A
-halves s g a f = changed (left_node g) (s.left a) (changed (right_node g) (s.right a) f)
+halves s g a f = changed_at (left_node g) (s.left a) (changed_at (right_node g) (s.right a) f)
 
 abbrev pub with_fork : {A : Type 0} → Strands A → Simulation A → (o st : ℕ) → Simulation A
 with_fork s m o st = record m { core = record m.core { machine = record m.core.machine { tree = tree m ++ fork_nodes (length (tree m)) (place (tree m) o) st } }; at = halves s (length (tree m)) (m.at o) m.at }
@@ -65,7 +65,7 @@ module _ {A : Type 0} (s : Strands A) (m : Simulation A) (w : IsWell m.core.mach
   forked = halves s g a
 
   abbrev y : AllStates A
-  y = record { before = changed g a (forked x.before); after = changed g a x.after; reached = forked x.reached }
+  y = record { before = changed_at g a (forked x.before); after = changed_at g a x.after; reached = forked x.reached }
 
   shape : IsTree t
   shape = w.sound.tree
@@ -153,13 +153,13 @@ module _ {A : Type 0} (s : Strands A) (m : Simulation A) (w : IsWell m.core.mach
   -- ## States
 
   half_old : (f : ℕ → A) (n : ℕ) → n ≤ g → forked f n ≡ f n
-  half_old f n le = state_other (changed (right_node g) (s.right a) f) (left_node g) (s.left a) n (λ e. omega (arith, e)) ∙ state_other f (right_node g) (s.right a) n (λ e. omega (arith, e))
+  half_old f n le = state_other (changed_at (right_node g) (s.right a) f) (left_node g) (s.left a) n (λ e. omega (arith, e)) ∙ state_other f (right_node g) (s.right a) n (λ e. omega (arith, e))
 
   half_left : (f : ℕ → A) → forked f (left_node g) ≡ s.left a
-  half_left f = state_same (changed (right_node g) (s.right a) f) (left_node g) (s.left a)
+  half_left f = state_same (changed_at (right_node g) (s.right a) f) (left_node g) (s.left a)
 
   half_right : (f : ℕ → A) → forked f (right_node g) ≡ s.right a
-  half_right f = state_other (changed (right_node g) (s.right a) f) (left_node g) (s.left a) (right_node g) (λ e. omega (arith, e)) ∙ state_same f (right_node g) (s.right a)
+  half_right f = state_other (changed_at (right_node g) (s.right a) f) (left_node g) (s.left a) (right_node g) (λ e. omega (arith, e)) ∙ state_same f (right_node g) (s.right a)
 
   half_same : (f h : ℕ → A) (n : ℕ) → g < n → n < length u → forked f n ≡ forked h n
   half_same f h n more low = elim (which_new n more low) [

@@ -13,28 +13,28 @@ use Rattle.cw_tree.specs.Series.{strand_of, children}
 use Rattle.cw_tree.specs.Shape.{IsTree}
 use Rattle.cw_tree.proofs.Walks.There.{pending_there, fork_there as fork_low, strand_there}
 use Rattle.cw_open.proofs.Open.Trees.{IsWell}
+use Rattle.cw_open.proofs.Open.Kinds.{unjoined_open}
 use Rattle.cw_core.proofs.Events.OneFork.{one_fork}
 use Rattle.cw_record.specs.Coherent.{IsForkOf, IsWanted}
 use Rattle.cw_record.proofs.Coherent.AddedStates.{state_same, state_other}
-use Rattle.cw_sim.specs.Workers.{Simulation, left_node, right_node, changed, tree}
+use Rattle.cw_sim.specs.Workers.{Simulation, left_node, right_node, changed_at, tree}
 use Rattle.cw_sim.specs.Kept.{AreStanding}
 use Rattle.cw_sim.proofs.Kept.StatesKept.{AllStates, Stay, MayChange, AreNew, states_kept, series_with_last}
 use Rattle.cw_sim.proofs.Kept.PlacedKept.{Elsewhere, AreHere, current_is, standing_kept}
-use Rattle.cw_sim.proofs.Kept.PlacedRunning.{unjoined_open}
 use Rattle.cw_sim.proofs.Kept.PlacedForked.{fork_there, above_low, above_open, above_no_fork, above_holds, above_own, above_place, fork_last}
 
 -- the strands of fork f join, and the strand that forked stands at what they become
 abbrev pub with_joined : {A : Type 0} → Strands A → Simulation A → (f : ℕ) → Simulation A
 with_joined s m f = record m {
   core = record m.core { machine = record m.core.machine { joined = f ∷ m.core.machine.joined } };
-  at = changed (strand_of (tree m) f) (s.joined (m.at (right_node f)) (m.at (left_node f))) m.at;
+  at = changed_at (strand_of (tree m) f) (s.joined (m.at (right_node f)) (m.at (left_node f))) m.at;
 }
 
 -- as is behind the fork, and reached in what holds it
 abbrev pub joined_states : {A : Type 0} → Strands A → Simulation A → (f : ℕ) → AllStates A → AllStates A
 joined_states s m f x =
     let v = s.joined (m.at (right_node f)) (m.at (left_node f)) in
-    record { before = x.before; after = changed f v x.after; reached = changed (parent_of (tree m) f) v x.reached }
+    record { before = x.before; after = changed_at f v x.after; reached = changed_at (parent_of (tree m) f) v x.reached }
 
 module _ {A : Type 0} (s : Strands A) (m : Simulation A) (w : IsWell m.core.machine) (forks : (f : ℕ) → has m.core.machine.joined f ≡ true → is_fork (tree m) f ≡ true)
     (f : ℕ) (fork : is_fork (tree m) f ≡ true) (unjoined : has m.core.machine.joined f ≡ false) (made : children (tree m) f ≡ left_node f ∷ right_node f ∷ []) (x : AllStates A) where

@@ -22,13 +22,12 @@ use Rattle.cw_open.specs.Machine.{OpenMachine, has_finished, finished_dead}
 use Rattle.cw_open.specs.Open.{is_open}
 use Rattle.cw_open.proofs.Open.Standing.{open_block}
 use Rattle.cw_open.proofs.Open.Trees.{IsWell}
-use Rattle.cw_core.proofs.Events.Ordering.{closed_strand}
+use Rattle.cw_open.proofs.Open.Kinds.{finished_shut, open_unjoined}
 use Rattle.cw_core.proofs.Kept.Tails.{child_low}
 use Rattle.cw_record.specs.Coherent.{InSeries, IsForkOf, IsClosed, IsWanted, entered}
 use Rattle.cw_record.specs.ClosedRun.{AreStates}
 use Rattle.cw_record.specs.Replay.{IsAccessOf}
 use Rattle.cw_record.proofs.Coherent.States.{Closes}
-use Rattle.cw_sim.proofs.Kept.Halves.{open_unjoined}
 
 -- ## Series
 
@@ -240,7 +239,7 @@ module _ {A : Type 0} (s : Strands A) (m z : OpenMachine) (x y : AllStates A) (p
           let done : has_finished m i ≡ true = sym (done_same i) ∙ b.1 in
           let low = may.well.finished i done in
           let strand : is_strand t i ≡ true = sym (k.strands i low) ∙ b.0 in
-          let ne : i ≢ p = λ q. (let shut = closed_strand m i strand done in let open_p = may.opened in cc (shut, ap (is_open m) q, open_p)) in
+          let ne : i ≢ p = λ q. (let shut = finished_shut m i strand done in let open_p = may.opened in cc (shut, ap (is_open m) q, open_p)) in
           let was = h.over i (ap (λ v. v && has_finished m i && not (finished_dead m i)) strand ∙ ap (λ v. v && not (finished_dead m i)) done ∙ ap not (sym (dead_same i)) ∙ a.1) in
           ap (λ v. is_over (s.want v)) (k.reached i low ne) ∙ was
 

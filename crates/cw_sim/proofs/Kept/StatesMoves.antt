@@ -29,7 +29,7 @@ use Rattle.cw_core.proofs.Events.Going.{well}
 use Rattle.cw_record.specs.Replay.{IsAccessOf}
 use Rattle.cw_record.proofs.Coherent.AddedStates.{state_same, state_other}
 use Rattle.cw_record.proofs.Coherent.States.{DoesAs}
-use Rattle.cw_sim.specs.Workers.{Simulation, changed, tree, worker, with_strand}
+use Rattle.cw_sim.specs.Workers.{Simulation, changed_at, tree, worker, with_strand}
 use Rattle.cw_sim.specs.Moves.{does, takes, steals, stops_if_spent, answers, meets_cell, accesses, begins, gives_up, forks}
 use Rattle.cw_sim.specs.Kept.{CoreGoesOn, HasStates}
 use Rattle.cw_sim.proofs.Kept.Leaves.{IsMore}
@@ -94,7 +94,7 @@ module _ {A : Type 0} (s : Strands A) (first : List ℤ) (m : Simulation A) (on 
       states_alike s (with_leaf m o kind st z.at z.saved) z (record { tree = is.tree; joined = is.joined; finished = is.finished; at = λ n. refl; saved = λ n. refl })
       (leaf_states s m w joined_forks o running kind st (is.strand, is.fork) b v z.at z.saved x held.3 does within here other begun as_kept)
 
-  other_at : (v : A) (n : ℕ) → n ≢ o → changed o v m.at n ≡ m.at n
+  other_at : (v : A) (n : ℕ) → n ≢ o → changed_at o v m.at n ≡ m.at n
   other_at v n ne = state_other m.at o v n ne
 
   pub out_states : (v : ℤ) → s.want a ≡ want.Out v → HasStates s (answers s o Nothing (does (event.Out o v) m))
@@ -164,9 +164,9 @@ module _ {A : Type 0} (s : Strands A) (first : List ℤ) (m : Simulation A) (on 
     pub commit_states : s.want a ≡ want.End → HasStates s (answers s o Nothing (does (event.Commit o) m))
     commit_states wants =
         let b = s.answer a Nothing in
-        states_alike s (with_closed m o Committed (next k) (changed o b m.at)) (answers s o Nothing (does (event.Commit o) m))
+        states_alike s (with_closed m o Committed (next k) (changed_at o b m.at)) (answers s o Nothing (does (event.Commit o) m))
         (record { tree = refl; joined = refl; finished = refl; at = λ n. refl; saved = λ b. refl })
-        (closed_states s first m on o running ready within Committed refl (next k) b (changed o b m.at) x held.3 (wants, refl) (state_same m.at o b) (other_at b))
+        (closed_states s first m on o running ready within Committed refl (next k) b (changed_at o b m.at) x held.3 (wants, refl) (state_same m.at o b) (other_at b))
 
     -- a strand that rolls it back stands at its begin again
     pub roll_states : is_dying k.machine o ≡ true → HasStates s (with_strand o (m.saved p) (does (event.Roll o) m))
@@ -175,6 +175,6 @@ module _ {A : Type 0} (s : Strands A) (first : List ℤ) (m : Simulation A) (on 
         (and_from (is_running k.machine o && in_block k.machine o) (is_dying k.machine o) (and_from (is_running k.machine o) (in_block k.machine o) running within) dying) in
         let is = roll_shut first k on o running ready rolls in
         let b = m.saved p in
-        states_alike s (with_closed m o Aborted (next k) (changed o b m.at)) (with_strand o (m.saved p) (does (event.Roll o) m))
+        states_alike s (with_closed m o Aborted (next k) (changed_at o b m.at)) (with_strand o (m.saved p) (does (event.Roll o) m))
         (record { tree = is.tree; joined = is.joined; finished = is.finished; at = λ n. refl; saved = λ b. refl })
-        (closed_states s first m on o running ready within Aborted refl (next k) b (changed o b m.at) x held.3 refl (state_same m.at o b) (other_at b))
+        (closed_states s first m on o running ready within Aborted refl (next k) b (changed_at o b m.at) x held.3 refl (state_same m.at o b) (other_at b))

@@ -14,10 +14,10 @@ use Rattle.cw_open.proofs.Open.Standing.{runs}
 use Rattle.cw_core.specs.declared.event.Event.TheVariants as event
 use Rattle.cw_tree.proofs.Walks.There.{fork_there, strand_there}
 use Rattle.cw_tree.proofs.NodeKinds.{fork_no_strand}
+use Rattle.cw_open.proofs.Open.Kinds.{finished_shut}
 use Rattle.cw_core.specs.State.{CoreState, has_columns, is_split, waits_for_left}
 use Rattle.cw_core.specs.Events.{fits, after_event, is_early}
 use Rattle.cw_core.proofs.Events.Going.{well}
-use Rattle.cw_core.proofs.Events.Ordering.{closed_strand}
 use Rattle.cw_sim.specs.Workers.{Worker, waiting, left_node, right_node}
 use Rattle.cw_sim.specs.Kept.{Runs, Fits, CoreGoesOn}
 use Rattle.cw_sim.proofs.Kept.Around.{Waits}
@@ -56,7 +56,7 @@ module _ (first : List ℤ) (k : CoreState) (on : CoreGoesOn first k) (f : ℕ) 
       let up = (right_child t tree on.forks f fork).parent in
       let P : ℕ → Type 0 = λ n. waits_for_left k n ≡ false in
       let done = left_done k on.forks (right_node f) f up fork refl (subst P q ready) here.split in
-      let shut = closed_strand m (left_node f) (left_strand t tree on.forks f fork) done in
+      let shut = finished_shut m (left_node f) (left_strand t tree on.forks f fork) done in
       let o = left_open first k on y f [] y_runs here in
       absurd (cc (o, shut))
 

@@ -14,12 +14,13 @@ use Rattle.cw_open.specs.Open.{is_open}
 use Rattle.cw_core.specs.State.{CoreState, is_split}
 use Rattle.cw_core.specs.Events.{is_early}
 use Rattle.cw_tree.specs.Series.{strand_of}
+use Rattle.cw_open.proofs.Open.Kinds.{open_unjoined}
 use Rattle.cw_core.proofs.Events.Going.{well}
 use Rattle.cw_sim.specs.Workers.{Worker, left_node, tree, worker}
 use Rattle.cw_sim.specs.Kept.{Runs, Fits, CoreGoesOn, forks_around}
 use Rattle.cw_sim.specs.Laws.{NoneIsEarly, ForksAreThere}
 use Rattle.cw_sim.proofs.Kept.Ways.{around_left}
-use Rattle.cw_sim.proofs.Kept.Halves.{open_unjoined, strand_open, left_child, left_strand}
+use Rattle.cw_sim.proofs.Kept.Halves.{strand_open, left_child, left_strand}
 use Rattle.cw_sim.proofs.Kept.Around.{Waits, waits_around}
 use Rattle.cw_sim.proofs.Laws.Early.{not_early}
 

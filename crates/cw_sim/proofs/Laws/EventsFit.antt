@@ -13,6 +13,7 @@ use Rattle.cw_open.specs.Runs.{left_died}
 use Rattle.cw_open.proofs.Open.Standing.{runs}
 use Rattle.cw_core.specs.declared.event.Event.TheVariants as event
 use Rattle.cw_tree.proofs.Walks.There.{strand_there}
+use Rattle.cw_open.proofs.Open.Kinds.{open_unjoined}
 use Rattle.cw_core.specs.State.{CoreState, has_columns, is_split}
 use Rattle.cw_core.specs.Events.{fits, after_event, is_early}
 use Rattle.cw_core.proofs.Events.Going.{well}
@@ -22,7 +23,7 @@ use Rattle.cw_sim.proofs.Kept.Around.{Waits, waits_around}
 use Rattle.cw_sim.proofs.Laws.Deques.{oldest_may, unjoined_around}
 use Rattle.cw_sim.proofs.Kept.Finishing.{goes, takes_right, done, none_beneath as none_in_right}
 use Rattle.cw_sim.proofs.Laws.Fits.{fork_fits, begin_fits, out_fits, cancel_fits, access_fits, commit_fits, rolls, roll_fits, finish_fits, finish_after_dead, split_fits, join_fits, free}
-use Rattle.cw_sim.proofs.Kept.Halves.{right_child, right_strand, open_unjoined, strand_open}
+use Rattle.cw_sim.proofs.Kept.Halves.{right_child, right_strand, strand_open}
 use Rattle.cw_sim.proofs.Laws.MoveFresh.{no_children, no_block, unstarted}
 use Rattle.cw_sim.proofs.Laws.Unsplit.{none_beneath}
 use Rattle.cw_sim.proofs.Kept.Workers.{has_front, runs_in, idle_in}

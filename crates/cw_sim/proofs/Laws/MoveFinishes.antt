@@ -18,7 +18,7 @@ use Rattle.cw_core.specs.State.{CoreState, is_split}
 use Rattle.cw_core.specs.Events.{fits, after_event}
 use Rattle.cw_core.proofs.Events.Going.{well}
 use Rattle.cw_sim.specs.Workers.{Worker, Simulation, waiting, left_node, right_node, worker_in}
-use Rattle.cw_sim.specs.Moves.{does, goes_to_right, meets, finishes}
+use Rattle.cw_sim.specs.Moves.{does, goes_to_right, joins_or_idles, finishes}
 use Rattle.cw_sim.specs.Kept.{Runs, AreWorkers, CoreGoesOn, forks_around}
 use Rattle.cw_sim.proofs.Laws.EventsFit.{strand_here, fork_here, unjoined_here, join_fits_here, right_fits_here, both_fit_here}
 use Rattle.cw_sim.proofs.Kept.Finishing.{done, more, left_behind, takes_right, filter_has}
@@ -186,19 +186,19 @@ module _ {A : Type 0} (s : Strands A) (first : List ℤ) (n : Simulation A) (w :
     abbrev both : Bool
     both = has_finished ended.machine (left_node forked) && has_finished ended.machine (right_node forked)
 
-    meets_to : ToMeet first k on ws old w x run dead fit some low → GoesTo first ended (meets s w forked both o)
+    meets_to : ToMeet first k on ws old w x run dead fit some low → GoesTo first ended (joins_or_idles s w forked both o)
     meets_to side = by both refl where
-      by : (b : Bool) → both ≡ b → GoesTo first ended (meets s w forked b o)
-      by false e = goes_on_there first (meets s w forked false o) (finish_goes first k on ws old w x run dead fit) (idle_workers first k on ws old w x run dead fit some low side e)
+      by : (b : Bool) → both ≡ b → GoesTo first ended (joins_or_idles s w forked b o)
+      by false e = goes_on_there first (joins_or_idles s w forked false o) (finish_goes first k on ws old w x run dead fit) (idle_workers first k on ws old w x run dead fit some low side e)
       by true e =
           let p = and_parts (has_finished ended.machine (left_node forked)) (has_finished ended.machine (right_node forked)) e in
           let join = join_fits_here first k on ws old w x run dead fit some p.0 p.1 in
           let fork = fork_here first k on ws old w x run dead fit some in
           let unjoined = unjoined_here first k on ws old w x run dead fit some in
-          by_event first (meets s w forked true o) ended (event.Join forked) join
-          (goes_on_there first (meets s w forked true o) (join_goes first k on ws old w x run dead fit forked fork unjoined join) (met_workers first k on ws old w x run dead fit some low join side))
+          by_event first (joins_or_idles s w forked true o) ended (event.Join forked) join
+          (goes_on_there first (joins_or_idles s w forked true o) (join_goes first k on ws old w x run dead fit forked fork unjoined join) (met_workers first k on ws old w x run dead fit some low join side))
 
-    follows_to : GoesTo first ended (cond (nat_eq x (left_node forked) && not (is_split k forked)) (goes_to_right s w forked dead o) (meets s w forked both o))
+    follows_to : GoesTo first ended (cond (nat_eq x (left_node forked) && not (is_split k forked)) (goes_to_right s w forked dead o) (joins_or_idles s w forked both o))
     follows_to = by (nat_eq x (left_node forked)) (is_split k forked) refl refl where
       tree : IsTree k.machine.tree
       tree = (well first k on.core).sound.tree
@@ -206,7 +206,7 @@ module _ {A : Type 0} (s : Strands A) (first : List ℤ) (n : Simulation A) (w :
       strand : is_strand k.machine.tree x ≡ true
       strand = strand_here first k on ws old w x run
 
-      by : (a b : Bool) → nat_eq x (left_node forked) ≡ a → is_split k forked ≡ b → GoesTo first ended (cond (a && not b) (goes_to_right s w forked dead o) (meets s w forked both o))
+      by : (a b : Bool) → nat_eq x (left_node forked) ≡ a → is_split k forked ≡ b → GoesTo first ended (cond (a && not b) (goes_to_right s w forked dead o) (joins_or_idles s w forked both o))
       by true false p q = turns_to x run dead fit some (eqb-true x (left_node forked) p) q
       by true true p q = meets_to (inl q)
       by false b p q = elim (which k.machine.tree tree on.forks forked (fork_here first k on ws old w x run dead fit some) x some (strand_there k.machine.tree x strand) refl) [

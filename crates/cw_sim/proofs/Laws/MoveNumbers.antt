@@ -16,7 +16,7 @@ use Rattle.cw_core.specs.declared.event.Reply.TheVariants as reply
 use Rattle.cw_core.specs.State.{is_split, spent}
 use Rattle.cw_core.specs.Events.{reply_to}
 use Rattle.cw_sim.specs.Workers.{Simulation, left_node, right_node, tree, worker, with_strand}
-use Rattle.cw_sim.specs.Moves.{does, others, takes, steals, goes_to_right, meets, finishes, follows, dies, meets_cell, stops_if_spent, acts, move}
+use Rattle.cw_sim.specs.Moves.{does, others, takes, steals, goes_to_right, joins_or_idles, finishes, follows, dies, meets_cell, stops_if_spent, acts, move}
 
 module _ {A : Type 0} (s : Strands A) (w : ℕ) where
   abbrev number : Simulation A → ℕ
@@ -33,7 +33,7 @@ module _ {A : Type 0} (s : Strands A) (w : ℕ) where
   turns_number f false m = length-set _ w _ ∙ length-set m.workers w _
   turns_number f true m = length-set _ w _ ∙ length-set m.workers w _
 
-  meets_number : (f : ℕ) (both : Bool) (m : Simulation A) → number (meets s w f both m) ≡ number m
+  meets_number : (f : ℕ) (both : Bool) (m : Simulation A) → number (joins_or_idles s w f both m) ≡ number m
   meets_number f false m = length-set m.workers w _
   meets_number f true m = length-set m.workers w _
 
@@ -46,7 +46,7 @@ module _ {A : Type 0} (s : Strands A) (w : ℕ) where
     both : Bool
     both = has_finished m.core.machine (left_node f) && has_finished m.core.machine (right_node f)
 
-    by : (b : Bool) → number (cond b (goes_to_right s w f dead m) (meets s w f both m)) ≡ number m
+    by : (b : Bool) → number (cond b (goes_to_right s w f dead m) (joins_or_idles s w f both m)) ≡ number m
     by true = turns_number f dead m
     by false = meets_number f both m
 

@@ -19,13 +19,14 @@ use Rattle.cw_open.proofs.Laws.Naming.{cancels_name}
 use Rattle.cw_open.proofs.Runs.LawsHold.{at_any}
 use Rattle.cw_open.proofs.Open.Standing.{runs, stands, place_holds}
 use Rattle.cw_open.proofs.Open.Trees.{IsWell}
+use Rattle.cw_open.proofs.Open.Kinds.{open_unjoined}
 use Rattle.cw_core.proofs.Events.Going.{well}
 use Rattle.cw_record.specs.Coherent.{Follows}
 use Rattle.cw_record.proofs.ClosedRun.Strands.{follows, no_open_fork}
 use Rattle.cw_sim.specs.Workers.{Simulation}
 use Rattle.cw_sim.specs.Kept.{CoreGoesOn, is_current, AreStanding, HasStates, IsKept}
 use Rattle.cw_sim.specs.Laws.{AreStrands}
-use Rattle.cw_sim.proofs.Kept.Halves.{open_unjoined, strand_open}
+use Rattle.cw_sim.proofs.Kept.Halves.{strand_open}
 use Rattle.cw_sim.specs.HasWants.{HasWants}
 use Rattle.cw_sim.proofs.Kept.Levels.{levels, strand_levels, block_levels}
 use Rattle.cw_sim.proofs.Kept.Reaching.{end_reached}

@@ -19,7 +19,7 @@ use Rattle.cw_core.specs.declared.event.Reply.TheVariants as reply
 use Rattle.cw_core.specs.State.{is_split, spent}
 use Rattle.cw_core.specs.Events.{reply_to, after_event}
 use Rattle.cw_sim.specs.Workers.{Simulation, left_node, right_node, tree, worker, with_strand}
-use Rattle.cw_sim.specs.Moves.{is_run_over, does, others, steals, takes, goes_to_right, meets, finishes, follows, dies, meets_cell, stops_if_spent, acts, move, after_moves}
+use Rattle.cw_sim.specs.Moves.{is_run_over, does, others, steals, takes, goes_to_right, joins_or_idles, finishes, follows, dies, meets_cell, stops_if_spent, acts, move, after_moves}
 use Rattle.cw_sim.specs.Kept.{Fits, Runs, IsKept}
 use Rattle.cw_sim.specs.Laws.{AreStrands}
 use Rattle.cw_sim.proofs.Laws.MoveNumbers.{move_number}
@@ -45,7 +45,7 @@ module _ {A : Type 0} (s : Strands A) where
   turns_on w f false m = refl
   turns_on w f true m = refl
 
-  meets_on : (w f : ℕ) (both : Bool) (m : Simulation A) → stopped (meets s w f both m) ≡ stopped m
+  meets_on : (w f : ℕ) (both : Bool) (m : Simulation A) → stopped (joins_or_idles s w f both m) ≡ stopped m
   meets_on w f false m = refl
   meets_on w f true m = refl
 
@@ -58,7 +58,7 @@ module _ {A : Type 0} (s : Strands A) where
     both : Bool
     both = has_finished m.core.machine (left_node f) && has_finished m.core.machine (right_node f)
 
-    by : (b : Bool) → stopped (cond b (goes_to_right s w f dead m) (meets s w f both m)) ≡ stopped m
+    by : (b : Bool) → stopped (cond b (goes_to_right s w f dead m) (joins_or_idles s w f both m)) ≡ stopped m
     by true = turns_on w f dead m
     by false = meets_on w f both m
 

@@ -11,7 +11,7 @@ use Rattle.cw_strand.specs.Strands.{Strands}
 use Rattle.cw_tree.specs.declared.closed.Halt.{Halt}
 use Rattle.cw_tree.specs.declared.closed.Halt.TheVariants as halt
 use Rattle.cw_tree.specs.declared.conflict.Conflict.{Conflict}
-use Rattle.cw_tree.specs.Refusals.{refused}
+use Rattle.cw_tree.specs.Refusals.{refused_node}
 use Rattle.cw_tree.specs.Series.{strand_of}
 use Rattle.cw_tree.specs.InOrder.{conflicts_in_order, halt_in_order}
 use Rattle.cw_open.specs.Machine.{OpenMachine}
@@ -46,7 +46,7 @@ none_spent : {A : Type 0} (s : Strands A) (m : OpenMachine) (before after reache
     → (x : ℕ) → end_after (halt_in_order m.tree h) spent memory outputs ≡ Budget x → ⊥
 none_spent s m before after reached budget (Some (halt.Fault y kind)) spent memory outputs none ends x e = absurd (cc e)
 none_spent s m before after reached budget (Some (halt.Budget y)) spent memory outputs none ends x e =
-    let P : List Conflict → Type 0 = λ cs. list_any (λ c. (c.attempt == budget) && (strand_of m.tree (refused m.tree c) == y)) cs ≡ true in
+    let P : List Conflict → Type 0 = λ cs. list_any (λ c. (c.attempt == budget) && (strand_of m.tree (refused_node m.tree c) == y)) cs ≡ true in
     absurd (let told = subst P none ends.told in cc told)
 none_spent s m before after reached budget (Some halt.Memory) spent memory outputs none ends x e = ends
 none_spent s m before after reached budget None true memory outputs none ends x e = absurd (cc e)

@@ -15,7 +15,7 @@ use Rattle.cw_core.specs.declared.event.Reply.TheVariants as reply
 use Rattle.cw_core.specs.State.{is_split, spent}
 use Rattle.cw_core.specs.Events.{reply_to}
 use Rattle.cw_sim.specs.Workers.{Simulation, left_node, right_node, tree, worker, with_strand}
-use Rattle.cw_sim.specs.Moves.{is_run_over, does, others, steals, goes_to_right, meets, finishes, follows, dies, meets_cell, stops_if_spent, acts, move, after_moves}
+use Rattle.cw_sim.specs.Moves.{is_run_over, does, others, steals, goes_to_right, joins_or_idles, finishes, follows, dies, meets_cell, stops_if_spent, acts, move, after_moves}
 use Rattle.cw_sim.specs.OneWorker.{OneSplitsNone}
 use Rattle.cw_sim.proofs.Laws.MoveNumbers.{move_number}
 
@@ -27,7 +27,7 @@ module _ {A : Type 0} (s : Strands A) where
   turns_splits w f false m = refl
   turns_splits w f true m = refl
 
-  meets_splits : (w f : ℕ) (both : Bool) (m : Simulation A) → splits (meets s w f both m) ≡ splits m
+  meets_splits : (w f : ℕ) (both : Bool) (m : Simulation A) → splits (joins_or_idles s w f both m) ≡ splits m
   meets_splits w f false m = refl
   meets_splits w f true m = refl
 
@@ -40,7 +40,7 @@ module _ {A : Type 0} (s : Strands A) where
     both : Bool
     both = has_finished m.core.machine (left_node f) && has_finished m.core.machine (right_node f)
 
-    by : (b : Bool) → splits (cond b (goes_to_right s w f dead m) (meets s w f both m)) ≡ splits m
+    by : (b : Bool) → splits (cond b (goes_to_right s w f dead m) (joins_or_idles s w f both m)) ≡ splits m
     by true = turns_splits w f dead m
     by false = meets_splits w f both m
 

@@ -23,7 +23,7 @@ use Rattle.cw_core.specs.Events.{is_stop, is_met, met_by, after_event}
 use Rattle.cw_core.proofs.Kept.RefusedTold.{after_refused}
 use Rattle.cw_record.specs.ClosedRun.{EndsSo}
 use Rattle.cw_sim.specs.Workers.{Simulation, left_node, right_node, tree, worker, with_strand}
-use Rattle.cw_sim.specs.Moves.{does, is_run_over, others, takes, steals, goes_to_right, meets, follows, finishes, dies, stops_if_spent, meets_cell, accesses, acts, move}
+use Rattle.cw_sim.specs.Moves.{does, is_run_over, others, takes, steals, goes_to_right, joins_or_idles, follows, finishes, dies, stops_if_spent, meets_cell, accesses, acts, move}
 use Rattle.cw_sim.specs.Kept.{Fits, is_current, CoreGoesOn, AreStanding}
 use Rattle.cw_sim.proofs.Kept.After.{is_finish, halt_after, finished_after}
 use Rattle.cw_sim.proofs.Runs.EndingMain.{main_lives, waits_for_none, is_there}
@@ -76,7 +76,7 @@ module _ {A : Type 0} (s : Strands A) where
         f : ℕ
         f = parent_of (tree n) (suc x)
 
-        by : (a b d : Bool) → is_run_over (cond a (goes_to_right s w f d n) (meets s w f b n)) ≡ is_run_over n
+        by : (a b d : Bool) → is_run_over (cond a (goes_to_right s w f d n) (joins_or_idles s w f b n)) ≡ is_run_over n
         by true b false = refl
         by true b true = still (after_event n.core (event.Finish (right_node f) true)) (event.Join f) refl refl ∙ other n.core (right_node f) true (omega arith)
         by false false d = refl

@@ -16,12 +16,13 @@ use Rattle.cw_tree.proofs.NodeKinds.{strand_no_block, pending_block}
 use Rattle.cw_open.specs.Machine.{OpenMachine, has_finished, waits, is_running, in_block, is_dying, falls}
 use Rattle.cw_open.proofs.Open.Standing.{runs}
 use Rattle.cw_open.proofs.Open.Trees.{IsWell}
+use Rattle.cw_open.proofs.Open.Kinds.{open_unjoined}
 use Rattle.cw_core.specs.State.{CoreState}
 use Rattle.cw_core.specs.Laws.{IsCore}
 use Rattle.cw_core.proofs.Fits.Dying.{any_conflict}
 use Rattle.cw_core.proofs.Events.Going.{well, at_place}
 use Rattle.cw_sim.specs.Kept.{is_current}
-use Rattle.cw_sim.proofs.Kept.Halves.{open_unjoined, strand_open}
+use Rattle.cw_sim.proofs.Kept.Halves.{strand_open}
 use Rattle.cw_sim.proofs.Laws.Ready.{main_ready}
 
 module _ (first : List ℤ) (k : CoreState) (core : IsCore first k) where

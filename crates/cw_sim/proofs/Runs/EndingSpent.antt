@@ -15,15 +15,14 @@ use Rattle.cw_tree.specs.Series.{strand_of, last_of, place}
 use Rattle.cw_tree.specs.Shape.{IsTree}
 use Rattle.cw_tree.specs.AccessStacks.{access_at}
 use Rattle.cw_tree.specs.VictimsAt.{victim_at}
-use Rattle.cw_tree.specs.Refusals.{victim_of, refused}
+use Rattle.cw_tree.specs.Refusals.{victim_of, refused_node}
 use Rattle.cw_tree.proofs.Walks.There.{node_there}
 use Rattle.cw_tree.proofs.NextNodes.Growing.{length_more, node_grown, number_new, strand_of_new}
-use Rattle.cw_tree.proofs.NodeKinds.{pending_block}
+use Rattle.cw_tree.proofs.NodeKinds.{pending_block, block_stamped}
 use Rattle.cw_open.specs.Machine.{OpenMachine, has_finished, is_running, is_free}
 use Rattle.cw_open.specs.Steps.{Met, refusal}
 use Rattle.cw_open.specs.Spent.{StandsStill, HasSpent}
 use Rattle.cw_open.proofs.Laws.ListSteps.{none_new}
-use Rattle.cw_open.proofs.Laws.Named.{block_stamp}
 use Rattle.cw_open.proofs.Open.Standing.{runs, stands}
 use Rattle.cw_open.proofs.Open.TreeSteps.{free_runs}
 use Rattle.cw_open.proofs.Open.Trees.{IsWell}
@@ -45,7 +44,7 @@ none_at X b (d ∷ cs) e = by (nat_eq d.attempt b) refl e (none_at X b cs) where
 
 none_told : (k : CoreState) → spent k ≡ None → last_refusal k ≡ None
 none_told k = by (last_refusal k) where
-  by : (o : Option Conflict) → option_map (λ c. strand_of k.machine.tree (refused k.machine.tree c)) o ≡ None → o ≡ None
+  by : (o : Option Conflict) → option_map (λ c. strand_of k.machine.tree (refused_node k.machine.tree c)) o ≡ None → o ≡ None
   by None e = refl
   by (Some c) e = absurd (cc e)
 
@@ -113,30 +112,30 @@ module _ (first : List ℤ) (k : CoreState) (core : IsCore first k) (s : ℕ) (f
   stands_still stopped (Some b) e =
       let w = outermost_in (may_fall t (access_at t met.last)) (path t p) b e in
       let pending = (and_parts (is_pending t b) (not (is_above t b (access_at t met.last))) w.1).0 in
-      let some = block_stamp t fine.sound.stamps b (pending_block t b pending) in
+      let some = block_stamped t fine.sound.stamps b (pending_block t b pending) in
       let named : conflict.victim ≡ stamp_of t b = ap (λ o. option_map_or (stamp_of t) o 0) e in
       let yes : victim_of conflict ≡ Some conflict.victim = ap (λ z. cond z None (Some conflict.victim)) (ne_eqb conflict.victim 0 (λ q. absurd (omega (arith, q, named, some)))) in
       let P : Option ℕ → Type 0 = λ o. StandsStill (refused_at stopped) conflict o in
       let low = node_there (λ y. is_block_kind y.kind && is_pending_state y.state) t b pending in
-      let here : is_pending u (refused u conflict) ≡ true =
+      let here : is_pending u (refused_node u conflict) ≡ true =
       ap (is_pending u) (refused_block first k core s free ready c conflict refl b pending some named) ∙ node_grown t (x ∷ []) (λ y. is_block_kind y.kind && is_pending_state y.state) b low ∙ pending in
       subst P (sym yes) here
 
   -- a strand that has spent its budget then, and had not before
   pub has_spent : spent k ≡ None → (y : ℕ) → spent (record k { machine = refused_at m.stopped }) ≡ Some y → (stopped : List ℕ) → HasSpent (refused_at stopped) k.budget y
   has_spent none y e stopped = by (nat_eq conflict.attempt k.budget) refl (sym (spends first k core s free ready c conflict refl (ap Rattle.std.specs.Prelude.is_none none)) ∙ e) where
-    by : (b : Bool) → nat_eq conflict.attempt k.budget ≡ b → cond b (Some (strand_of u (refused u conflict))) None ≡ Some y → HasSpent (refused_at stopped) k.budget y
+    by : (b : Bool) → nat_eq conflict.attempt k.budget ≡ b → cond b (Some (strand_of u (refused_node u conflict))) None ≡ Some y → HasSpent (refused_at stopped) k.budget y
     by false is q = absurd (cc q)
     by true is q =
-        let same : strand_of u (refused u conflict) ≡ y = cc q in
+        let same : strand_of u (refused_node u conflict) ≡ y = cc q in
         let S : Conflict → Type 0 = λ d. StandsStill (refused_at stopped) d (victim_of d) in
         let P : Conflict → Type 0 = λ d. d.attempt ≡ k.budget → S d in
-        let told : Conflict → Bool = λ d. nat_eq d.attempt k.budget && nat_eq (strand_of u (refused u d)) y in
+        let told : Conflict → Bool = λ d. nat_eq d.attempt k.budget && nat_eq (strand_of u (refused_node u d)) y in
         record {
           told =
               list_any-append told m.conflicts (conflict ∷ [])
               ∙ or_right (list_any told m.conflicts) (list_any told (conflict ∷ []))
-              (or_left (nat_eq conflict.attempt k.budget && nat_eq (strand_of u (refused u conflict)) y) false
-              (and_from (nat_eq conflict.attempt k.budget) (nat_eq (strand_of u (refused u conflict)) y) is (eq-eqb (strand_of u (refused u conflict)) y same)));
+              (or_left (nat_eq conflict.attempt k.budget && nat_eq (strand_of u (refused_node u conflict)) y) false
+              (and_from (nat_eq conflict.attempt k.budget) (nat_eq (strand_of u (refused_node u conflict)) y) is (eq-eqb (strand_of u (refused_node u conflict)) y same)));
           still = All-append P m.conflicts (conflict ∷ []) (none_at S k.budget m.conflicts (none_told k none)) (All-cons P conflict [] (λ q. stands_still stopped (victim_at t (access_at t met.last) p) refl) (All-nil P));
         }

@@ -26,7 +26,7 @@ use Rattle.cw_record.specs.Built.{memory_left, outputs_left}
 use Rattle.cw_record.specs.ClosedRun.{end_after}
 use Rattle.cw_sim.specs.Workers.{Simulation, left_node, right_node, first_simulation, tree, worker}
 use Rattle.cw_sim.specs.Turns.{worker_at}
-use Rattle.cw_sim.specs.Moves.{accesses, acts, after_moves, dies, does, follows, is_run_over, meets, meets_cell, move, others, steals, stops_if_spent, takes, goes_to_right}
+use Rattle.cw_sim.specs.Moves.{accesses, acts, after_moves, dies, does, follows, is_run_over, joins_or_idles, meets_cell, move, others, steals, stops_if_spent, takes, goes_to_right}
 use Rattle.cw_sim.specs.Runs.{IsRecordOf, closed_of, simulation_of}
 
 -- what an end tells of the moves, where it is not for want of memory
@@ -67,7 +67,7 @@ module _ {A : Type 0} where
         by_dead f false = g
         by_dead f true = g
 
-        by_both : (f : ℕ) (b : Bool) → Goes (meets s w f b m)
+        by_both : (f : ℕ) (b : Bool) → Goes (joins_or_idles s w f b m)
         by_both f false = g
         by_both f true = g
 

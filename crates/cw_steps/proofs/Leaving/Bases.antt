@@ -1,6 +1,6 @@
 -- Serves `HasBases`: a table of where logs begin, to which a log is added.
-use Rattle.std.proofs.Common.{◌≡◌, ℕ, zero, suc, ◌+◌, List, [], ◌∷◌, ◌++◌, length, append_assoc, append-nil, cond, false, refl, ap, sym, ◌∙◌, subst, arith, Option, Some, None, inl, inr}
-use Rattle.std.specs.Prelude.{◌⊎◌, is_some, slice_get, slice_set, replicate}
+use Rattle.std.proofs.Common.{◌≡◌, ℕ, ◌+◌, List, [], ◌∷◌, ◌++◌, length, append_assoc, append-nil, cond, false, refl, ap, sym, ◌∙◌, subst, arith, Option, Some, None, inl, inr}
+use Rattle.std.specs.Prelude.{◌⊎◌, is_some, slice_get, slice_set}
 use Rattle.std.proofs.lemmas.Bool.{eq-eqb, ne_eqb, cases_eq}
 use Rattle.cw_tree.proofs.NextNodes.Closing.{get_set_other, get_set_same}
 use Rattle.cw_log.specs.declared.log.Log.{Log}
@@ -26,22 +26,6 @@ apart_more [] l h none = (tt, tt)
 apart_more (x ∷ ls) l h none = (none_more x.column ls l h.0 (λ e. none.0 (sym e)), apart_more ls l h.1 none.1)
 
 -- ## Tables
-
-replicated : (n k : ℕ) (x : Option (Option ℕ)) → slice_get (replicate n None) k ≡ x → (x ≡ Some None) ⊎ (x ≡ None)
-replicated zero k x e = inr (sym e)
-replicated (suc n) zero x e = inl (sym e)
-replicated (suc n) (suc k) x e = replicated n k x e
-
-pub none_yet : (b : Bases) (n : ℕ) → b.table.items ≡ replicate n None → b.count ≡ 0 → HasBases b []
-none_yet b n e z = record {
-  found = λ column base at more. absurd (never column base (replicated n column (Some (Some base)) (subst (λ xs. slice_get xs column ≡ Some (Some base)) e at)));
-  free = λ column at. tt;
-  count = z;
-  apart = tt;
-} where
-  never : (column base : ℕ) → (Some (Some base) ≡ Some None) ⊎ (Some (Some base) ≡ None) → ⊥
-  never column base (inl q) = absurd (cc q)
-  never column base (inr q) = absurd (cc q)
 
 module _ (b b' : Bases) (place : ℕ) (ls : List Log) (l : Log) (here : l.column ≡ place) (empty : slice_get b.table.items place ≡ Some None)
     (put : b'.table.items ≡ slice_set b.table.items place (Some b.count)) (count : b'.count ≡ b.count + length l.nodes) (h : HasBases b ls) where

@@ -1,4 +1,4 @@
--- Serves `AreJournals`: a seat that takes a turn to look, and gives it back.
+-- Serves `AreFoundJournals`: a seat that takes a turn to look, and gives it back.
 use Rattle.std.proofs.Common.{◌≡◌, ℕ, zero, suc, ◌≤◌, List, [], ◌∷◌, ◌++◌, length, refl, ap, sym, ◌∙◌, subst, arith, Some, None, inl, inr}
 use Rattle.std.specs.Prelude.{◌⊎◌, slice_get, IfOk, Result, Ok, Err}
 use Rattle.std.specs.List.Sorted.{IsStrictlyIncreasing}
@@ -6,7 +6,7 @@ use Rattle.atomic_table.specs.Table.{Me, rest}
 use Rattle.cw_tree.specs.declared.access.Entry.{Entry}
 use Rattle.cw_tree.specs.AccessStacks.{stamps}
 use Rattle.cw_stack.specs.Cells.{CellParts, AreSteps}
-use Rattle.cw_steps.specs.Leaving.{HasReturned, IsJournal}
+use Rattle.cw_steps.specs.Leaving.{HasReturned, IsFoundJournal}
 use Rattle.cw_steps.specs.declared.draw.Aim.TheVariants.{Look}
 use Rattle.cw_steps.specs.declared.draw.Home.TheVariants as home
 use Rattle.cw_steps.specs.Homes.{CellComesHome, MayGive}
@@ -15,7 +15,7 @@ use Rattle.cw_steps.specs.declared.view.Key.{Key}
 use Rattle.cw_steps.specs.declared.view.Slot.{Slot}
 use Rattle.cw_steps.specs.declared.view.Slot.TheVariants as slot
 use Rattle.cw_steps.specs.declared.view.View.{View}
-use Rattle.cw_steps.specs.Views.{cell_in, gave_view, held_by, newest_aim, newest_cell, newest_slot, newest_used, took_view, view_of, Holding, IsLowCell, IsWhole, LeavesIt, TakesIt}
+use Rattle.cw_steps.specs.Views.{cell_in, gave_view, held_by, newest_aim, newest_cell, newest_slot, newest_used, took_view, view_of, IsWhole, TakesIt}
 
 pub looks_not : (me : Me Slot View) → HasReturned me me
 looks_not me = record { seen = me.0.seen; notes = me.0.notes; later = omega arith; after = refl }
@@ -28,9 +28,6 @@ looks_more a b c h g = record {
   after = g.after ∙ ap (λ (m : Me Slot View). (record m.0 { seen = g.seen; notes = g.notes }, m.1)) h.after;
 }
 
-pub looks_left : (word : ℕ) (a b : Me Slot View) → LeavesIt word a b → HasReturned a b
-looks_left word a b left = record { seen = a.0.seen; notes = record { word = word; value = left.0 } ∷ a.0.notes; later = omega arith; after = left.2 }
-
 abbrev first_slot : List (ℕ × Slot) → Slot
 first_slot [] = slot.Empty
 first_slot (x ∷ xs) = x.1
@@ -39,11 +36,6 @@ cell_lies : (y : Slot) (x : CellParts) → Some x ≡ cell_in y → y ≡ slot.C
 cell_lies (slot.Cell z) x e = ap slot.Cell (cc e)
 cell_lies (slot.Tier z) x e = absurd (cc e)
 cell_lies slot.Empty x e = absurd (cc e)
-
-pub low_cell_lies : (most : ℕ) (y : Slot) → IsLowCell most y → cell_in y ≡ None → ⊥
-low_cell_lies most (slot.Cell z) low e = absurd (cc e)
-low_cell_lies most (slot.Tier z) low e = absurd low
-low_cell_lies most slot.Empty low e = absurd low
 
 -- t took the turn of slot n and was u then; with the cell in its hands it was v, and w when that lay there again
 module _ (key : Key) (n : ℕ) (t u : StrandToken) (takes : TakesIt key Look n t.seat.me u.seat.me) where
@@ -58,9 +50,6 @@ module _ (key : Key) (n : ℕ) (t u : StrandToken) (takes : TakesIt key Look n t
 
   pub cell_lay : (x : CellParts) (y : Slot) → held_by u ≡ (n, y) ∷ rest (held_by u) → Some x ≡ cell_in y → takes.lay ≡ slot.Cell x
   cell_lay x y e out = cell_lies takes.lay x (out ∙ ap cell_in (lay_there y e))
-
-  pub holds_then : Holding u n takes.lay
-  holds_then = record { turn = ap (λ (z : View). newest_slot z.turns) view_then; slot = held_then ∙ ap (λ ys. (n, takes.lay) ∷ rest ys) (sym held_then) }
 
   module _ (x : CellParts) (v w : StrandToken) (lay : takes.lay ≡ slot.Cell x) (out_view : view_of v ≡ view_of u) (in_view : view_of w ≡ view_of v) (out : held_by v ≡ (n, slot.Empty) ∷ rest (held_by u)) (back : held_by w ≡ (n, slot.Cell x) ∷ rest (held_by v)) where
     view_now : view_of w ≡ took_view n Look takes.lay takes.used takes.clock (view_of t)
@@ -87,12 +76,12 @@ module _ (key : Key) (n : ℕ) (t u : StrandToken) (takes : TakesIt key Look n t
       after = λ i. ((view ∙ ap (gave_view home.Plain) view_now) i, (slots ∙ ap (λ ys. rest ys) held_now) i);
     }
 
-  pub journal_then : (x : CellParts) → takes.lay ≡ slot.Cell x → (es : List Entry) → es ≡ x.entries → IsStrictlyIncreasing (stamps es) → AreSteps x.first es → IsJournal key t.seat.me n es
+  pub journal_then : (x : CellParts) → takes.lay ≡ slot.Cell x → (es : List Entry) → es ≡ x.entries → IsStrictlyIncreasing (stamps es) → AreSteps x.first es → IsFoundJournal key t.seat.me n es
   journal_then x lay es same rising steps = record { before = t.seat.me; after = u.seat.me; looked = looks_not t.seat.me; takes = takes; cell = x; lay = lay; entries = same; rising = rising; steps = steps }
 
 -- ## One after another
 
-pub journal_since : (key : Key) (a b : Me Slot View) (n : ℕ) (es : List Entry) → HasReturned a b → IsJournal key b n es → IsJournal key a n es
+pub journal_since : (key : Key) (a b : Me Slot View) (n : ℕ) (es : List Entry) → HasReturned a b → IsFoundJournal key b n es → IsFoundJournal key a n es
 journal_since key a b n es h j = record {
   before = j.before;
   after = j.after;
@@ -114,13 +103,13 @@ get_more (z ∷ xs) y (suc n) x e = further (get_more xs y n x e) where
   further (inl e) = inl e
   further (inr q) = inr (ap suc q.0, q.1)
 
-module _ (key : Key) (me : Me Slot View) (js ks : List (List Entry)) (es : List Entry) (n : ℕ) (many : length js ≡ n) (each : (m : ℕ) (fs : List Entry) → slice_get js m ≡ Some fs → IsJournal key me m fs)
-    (one : IsJournal key me n es) (grown : ks ≡ js ++ es ∷ []) where
-  pub each_more : (m : ℕ) (fs : List Entry) → slice_get ks m ≡ Some fs → IsJournal key me m fs
+module _ (key : Key) (me : Me Slot View) (js ks : List (List Entry)) (es : List Entry) (n : ℕ) (many : length js ≡ n) (each : (m : ℕ) (fs : List Entry) → slice_get js m ≡ Some fs → IsFoundJournal key me m fs)
+    (one : IsFoundJournal key me n es) (grown : ks ≡ js ++ es ∷ []) where
+  pub each_more : (m : ℕ) (fs : List Entry) → slice_get ks m ≡ Some fs → IsFoundJournal key me m fs
   each_more m fs e = by (get_more js es m fs (subst (λ zs. slice_get zs m ≡ Some fs) grown e)) where
-    by : (slice_get js m ≡ Some fs) ⊎ ((m ≡ length js) × (es ≡ fs)) → IsJournal key me m fs
+    by : (slice_get js m ≡ Some fs) ⊎ ((m ≡ length js) × (es ≡ fs)) → IsFoundJournal key me m fs
     by (inl q) = each m fs q
-    by (inr q) = let here : n ≡ m = sym (q.0 ∙ many) in subst (λ k. IsJournal key me k fs) here (subst (IsJournal key me n) q.1 one)
+    by (inr q) = let here : n ≡ m = sym (q.0 ∙ many) in subst (λ k. IsFoundJournal key me k fs) here (subst (IsFoundJournal key me n) q.1 one)
 
 -- an answer that has four facts, by three of them
 pub if_ok : {A B : Type 0} → (r : Result A B) → {P Q R S : A → Type 0} → ((a : A) → P a → Q a → R a → S a) → IfOk r P → IfOk r Q → IfOk r R → IfOk r S

@@ -1,21 +1,18 @@
 -- Serves `conflicts_of` and `halt_in`: the conflicts of a log more, and the strand of a halt.
-use Rattle.std.proofs.Common.{◌≡◌, ℕ, zero, suc, ◌+◌, ◌-◌, ◌<◌, inl, inr, add-one, Bool, true, false, List, [], ◌∷◌, ◌++◌, length, map, append_assoc, append-nil, cond, refl, ap, sym, ◌∙◌, subst, arith, Option, Some, None}
+use Rattle.std.proofs.Common.{◌≡◌, ℕ, suc, ◌+◌, ◌-◌, Bool, true, false, List, [], ◌∷◌, ◌++◌, length, map, append_assoc, append-nil, cond, refl, ap, sym, ◌∙◌, subst, arith, Option, Some, None}
 use Rattle.std.specs.Prelude.{◌==◌, slice_get, if◌then◌else◌}
-use Rattle.std.specs.List.{find}
-use Rattle.std.specs.Option.{option_map_or, option_or}
+use Rattle.std.specs.Option.{option_map_or}
 use Rattle.std.proofs.lemmas.Bool.{eq-eqb, ne_eqb}
-use Rattle.std.proofs.lemmas.List.Folds.{find-append}
-use Rattle.cw_tree.proofs.Lists.{at_or_before}
 use Rattle.cw_code.specs.declared.FaultKind.{FaultKind}
 use Rattle.cw_tree.specs.declared.node.Node.{Node}
 use Rattle.cw_tree.specs.declared.conflict.Conflict.{Conflict}
 use Rattle.cw_tree.specs.declared.closed.Halt.{Halt}
-use Rattle.cw_tree.specs.declared.closed.Halt.TheVariants.{Fault, Budget, Memory}
-use Rattle.cw_tree.specs.Nodes.{below, block_with_stamp}
+use Rattle.cw_tree.specs.declared.closed.Halt.TheVariants.{Fault, Budget}
+use Rattle.cw_tree.specs.Nodes.{block_with_stamp}
 use Rattle.cw_tree.specs.Series.{strand_of}
 use Rattle.cw_log.specs.declared.log.Log.{Log}
 use Rattle.cw_log.specs.declared.token.Stop.{Stop}
-use Rattle.cw_course.specs.Closings.{base_of, conflicts_of, halt_in, last_conflict, last_of, spender, tree_of, HasNone}
+use Rattle.cw_course.specs.Closings.{base_of, conflicts_of, halt_in, last_conflict, last_of_conflicts, spender, tree_of, HasNone}
 
 module _ (all : List Log) where
   abbrev moved : (base : ℕ) → Conflict → Conflict
@@ -36,26 +33,26 @@ module _ (all : List Log) where
 
 -- ## The last conflict of a log
 
-pub last_is : (cs : List Conflict) → last_of cs ≡ slice_get cs (length cs - 1)
+pub last_is : (cs : List Conflict) → last_of_conflicts cs ≡ slice_get cs (length cs - 1)
 last_is [] = refl
 last_is (c ∷ []) = refl
 last_is (c ∷ d ∷ cs) =
     let e : length (c ∷ d ∷ cs) - 1 ≡ suc (length (d ∷ cs) - 1) = omega arith in
     last_is (d ∷ cs) ∙ sym (ap (slice_get (c ∷ d ∷ cs)) e)
 
-pub last_found : (ls more : List Log) (l : Log) (c : ℕ) → HasNone c ls → l.column ≡ c → last_conflict (ls ++ l ∷ more) c ≡ last_of l.conflicts
-last_found [] more l c h e = ap (λ b. cond b (last_of l.conflicts) (last_conflict more c)) (eq-eqb l.column c e)
-last_found (x ∷ ls) more l c h e = ap (λ b. cond b (last_of x.conflicts) (last_conflict (ls ++ l ∷ more) c)) (ne_eqb x.column c h.0) ∙ last_found ls more l c h.1 e
+pub last_found : (ls more : List Log) (l : Log) (c : ℕ) → HasNone c ls → l.column ≡ c → last_conflict (ls ++ l ∷ more) c ≡ last_of_conflicts l.conflicts
+last_found [] more l c h e = ap (λ b. cond b (last_of_conflicts l.conflicts) (last_conflict more c)) (eq-eqb l.column c e)
+last_found (x ∷ ls) more l c h e = ap (λ b. cond b (last_of_conflicts x.conflicts) (last_conflict (ls ++ l ∷ more) c)) (ne_eqb x.column c h.0) ∙ last_found ls more l c h.1 e
 
 pub last_none : (ls : List Log) (c : ℕ) → HasNone c ls → last_conflict ls c ≡ None
 last_none [] c h = refl
-last_none (x ∷ ls) c h = ap (λ b. cond b (last_of x.conflicts) (last_conflict ls c)) (ne_eqb x.column c h.0) ∙ last_none ls c h.1
+last_none (x ∷ ls) c h = ap (λ b. cond b (last_of_conflicts x.conflicts) (last_conflict ls c)) (ne_eqb x.column c h.0) ∙ last_none ls c h.1
 
 -- the victim of a conflict, or 0
 abbrev pub victim_or_none : Option Conflict → ℕ
 victim_or_none o = option_map_or (λ (c : Conflict). c.victim) o 0
 
-pub victim_is : (cs : List Conflict) (c : Conflict) → Some c ≡ slice_get cs (length cs - 1) → c.victim ≡ victim_or_none (last_of cs)
+pub victim_is : (cs : List Conflict) (c : Conflict) → Some c ≡ slice_get cs (length cs - 1) → c.victim ≡ victim_or_none (last_of_conflicts cs)
 victim_is cs c e = ap victim_or_none (e ∙ sym (last_is cs))
 
 -- ## Halts
@@ -80,22 +77,3 @@ module _ (all : List Log) (x : Stop) (n : ℕ) (at : n ≡ base_of all x.column 
   budget_is y v m t e same last by = subst (λ (h : Halt). Some (Budget m) ≡ halt_in all (Some (record x { halt = h }))) (sym e)
       (ap (λ k. Some (Budget k)) (by ∙ ap (λ w. spender_by t w n) last ∙ spender_is t (last_conflict all x.column) n ∙ ap (λ u. spender u (last_conflict all x.column) n) same
       ∙ ap (spender (tree_of all) (last_conflict all x.column)) at))
-
-pub memory_is : (all : List Log) (x : Stop) → x.halt ≡ Memory → Some Memory ≡ halt_in all (Some x)
-memory_is all x e = subst (λ (h : Halt). Some Memory ≡ halt_in all (Some (record x { halt = h }))) (sym e) refl
-
--- ## The first number that passes
-
-pub none_below_more : (p : ℕ → Bool) (n : ℕ) → find p (below n) ≡ None → p n ≡ false → find p (below (n + 1)) ≡ None
-none_below_more p n h e = rw add-one (find-append p (below n) (n ∷ []) ∙ ap (λ o. option_or o (cond (p n) (Some n) None)) h ∙ ap (λ b. cond b (Some n) None) e)
-
-pub first_below : (p : ℕ → Bool) (n k : ℕ) → find p (below n) ≡ None → p n ≡ true → n < k → find p (below k) ≡ Some n
-first_below p n zero h e l = absurd (omega arith)
-first_below p n (suc k) h e l =
-    find-append p (below k) (k ∷ [])
-    ∙ elim (at_or_before n k l) [
-      | inl less ↦ ap (λ o. option_or o (cond (p k) (Some k) None)) (first_below p n k h e less)
-      | inr same ↦
-          (let P : ℕ → Type 0 = λ m. option_or (find p (below m)) (cond (p m) (Some m) None) ≡ Some n in
-          subst P (sym same) (ap (λ o. option_or o (cond (p n) (Some n) None)) h ∙ ap (λ b. cond b (Some n) None) e))
-    ]

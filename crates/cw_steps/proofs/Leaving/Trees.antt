@@ -1,6 +1,6 @@
 -- Serves `tree_of`: a log more behind others, and a node more in a tree.
 use Rattle.std.proofs.Common.{◌≡◌, ℕ, ◌+◌, false, List, [], ◌∷◌, ◌++◌, length, length-append, map, append_assoc, append-nil, refl, ap, sym, ◌∙◌, arith, Some}
-use Rattle.std.specs.Prelude.{slice_get, slice_set, Result, Ok, Err, OnOk}
+use Rattle.std.specs.Prelude.{slice_get}
 use Rattle.std.proofs.Math.Seq.{set-append_seam}
 use Rattle.std.proofs.lemmas.List.{length-map}
 use Rattle.cw_tree.specs.declared.node.Node.{Node}
@@ -11,6 +11,7 @@ use Rattle.cw_tree.specs.declared.node.BlockState.TheVariants.{Committed}
 use Rattle.cw_tree.specs.Nodes.{closed, first_state, fresh_node, is_block, is_block_kind, passes}
 use Rattle.cw_log.specs.declared.log.Log.{Log}
 use Rattle.cw_course.specs.Closings.{hung, base_of, put_together}
+use Rattle.cw_course.proofs.Trails.Steps.{closed_at}
 use Rattle.cw_steps.specs.Leaving.{nodes_in, IsPlain}
 
 -- ## Logs
@@ -50,9 +51,6 @@ get_last : (t : List Node) (x : Node) → slice_get (t ++ x ∷ []) (length t) �
 get_last [] x = refl
 get_last (y ∷ t) x = get_last t x
 
-closed_at : (t : List Node) (b : ℕ) (state : BlockState) (end : ℕ) (x : Node) → slice_get t b ≡ Some x → closed t b state end ≡ slice_set t b (record x { state = state; end = end })
-closed_at t b state end x e = rw e refl
-
 pub closed_last : (t : List Node) (x : Node) (state : BlockState) (end : ℕ) → closed (t ++ x ∷ []) (length t) state end ≡ t ++ record x { state = state; end = end } ∷ []
 closed_last t x state end = closed_at (t ++ x ∷ []) (length t) state end x (get_last t x) ∙ set-append_seam t x [] (record x { state = state; end = end })
 
@@ -88,22 +86,3 @@ hung_plain t u n p k x e f g other plain =
     let same : u ≡ t ++ fresh_node p x.kind x.stamp ∷ [] = g ∙ ap (λ j. t ++ fresh_node p j x.stamp ∷ []) f in
     let none : is_block (t ++ fresh_node p x.kind x.stamp ∷ []) (length t) ≡ false = ap (λ ns. is_block ns (length t)) (sym same) ∙ ap (is_block u) (sym e) ∙ other in
     same ∙ ap (λ y. t ++ y ∷ []) (plain_last t p x none plain)
-
--- a log whose first node was hung, and then the others
-module _ (first : Node) (rest nodes : List Node) (parts : nodes ≡ first ∷ rest) where
-  pub log_hung : {A B : Type 0} → (r : Result A B) (t u v : List Node) (base under : ℕ) → base ≡ length t → u ≡ t ++ record first { parent = under } ∷ []
-      → OnOk r (v ≡ u ++ map (λ (y : Node). record y { parent = base + y.parent }) rest) → OnOk r (v ≡ t ++ hung (length t) under nodes)
-  log_hung (Ok a) t u v base under e f g =
-      g ∙ ap (λ ns. ns ++ map (λ (y : Node). record y { parent = base + y.parent }) rest) f
-      ∙ append_assoc t (record first { parent = under } ∷ []) (map (λ (y : Node). record y { parent = base + y.parent }) rest)
-      ∙ ap (λ b. t ++ hung b under (first ∷ rest)) e
-      ∙ ap (λ ns. t ++ hung (length t) under ns) (sym parts)
-  log_hung (Err b) t u v base under e f g = tt
-
-  pub root_hung : (t u : List Node) (x : Node) → record first { parent = 0 } ≡ x → t ≡ x ∷ [] → u ≡ t ++ map (λ (y : Node). record y { parent = 0 + y.parent }) rest → u ≡ hung 0 0 nodes
-  root_hung t u x e f g =
-      g ∙ ap (λ ns. ns ++ map (λ (y : Node). record y { parent = 0 + y.parent }) rest) (f ∙ ap (λ y. y ∷ []) (sym e)) ∙ ap (hung 0 0) (sym parts)
-
-pub empty_hung : (t nodes : List Node) (under : ℕ) → length nodes ≡ 0 → t ≡ t ++ hung (length t) under nodes
-empty_hung t [] under e = sym (append-nil t)
-empty_hung t (x ∷ xs) under e = absurd (omega (arith, e))

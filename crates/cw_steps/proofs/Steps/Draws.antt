@@ -19,7 +19,7 @@ use Rattle.cw_steps.proofs.Concerns.Clock.{clock_set}
 use Rattle.cw_steps.proofs.Concerns.Turns.{turns_stay}
 use Rattle.cw_steps.proofs.Concerns.Cells.{cells_stay}
 use Rattle.cw_steps.proofs.Concerns.Tiers.{comes_more, waits_more, tiers_set, tiers_grow}
-use Rattle.cw_steps.proofs.Concerns.Stops.{stops_stay}
+use Rattle.cw_steps.proofs.Concerns.StopWord.{stops_stay}
 use Rattle.cw_steps.proofs.Steps.Words.{word_here, word_else}
 
 module _ (key : Key) (s : State Slot View) (h : Holds key s) (id : ℕ) (v : View) (at : get_elem? s.views id ≡ some v) (some_room : 0 < v.room) where

@@ -1,4 +1,4 @@
--- Serves `marked`, `halted` and `told`: a gap word, the stop word and a look at either keep the rule.
+-- Serves `marked`, `set_stop` and `told`: a gap word, the stop word and a look at either keep the rule.
 use Rattle.std.proofs.Common.{◌≡◌, ℕ, suc, ◌+◌, ◌<◌, ◌≤◌, ◌∙◌, List, arith, ap, sym, refl, set, length-set, nat_lt, true, false, Bool, subst, inl, inr}
 use Rattle.std.specs.Prelude.{◌⊎◌, ◌||◌, slice_index, All}
 use mathlib.Core.Option.{some, none}
@@ -9,8 +9,8 @@ use Rattle.cw_tree.specs.declared.closed.Halt.{Halt}
 use Rattle.cw_steps.specs.declared.view.Key.{Key}
 use Rattle.cw_steps.specs.declared.view.Slot.{Slot}
 use Rattle.cw_steps.specs.declared.view.View.{View}
-use Rattle.cw_steps.specs.Views.{cells_of, turns_of, halted, halted_view, marked, marked_view, noted_view, told, told_view, found, weighed}
-use Rattle.cw_steps.specs.Rule.{Holds, Stops, ComesIn, WaitsIn}
+use Rattle.cw_steps.specs.Views.{cells_of, turns_of, set_stop, halted_view, marked, marked_view, noted_view, told, told_view, found, weighed}
+use Rattle.cw_steps.specs.Rule.{Holds, StopWord, ComesIn, WaitsIn}
 use Rattle.atomic_table.proofs.Lists.{set_again}
 use Rattle.cw_steps.specs.Totals.{total}
 use Rattle.cw_steps.proofs.Counts.{total_part}
@@ -18,7 +18,7 @@ use Rattle.cw_steps.proofs.Concerns.Clock.{clock_set}
 use Rattle.cw_steps.proofs.Concerns.Turns.{turns_stay}
 use Rattle.cw_steps.proofs.Concerns.Cells.{cells_stay}
 use Rattle.cw_steps.proofs.Concerns.Tiers.{tiers_set}
-use Rattle.cw_steps.proofs.Concerns.Stops.{stops_set, stops_stay}
+use Rattle.cw_steps.proofs.Concerns.StopWord.{stops_set, stops_stay}
 use Rattle.cw_steps.proofs.Steps.Words.{word_else}
 
 module _ (key : Key) (s : State Slot View) (h : Holds key s) (id : ℕ) (v : View) (at : get_elem? s.views id ≡ some v) (i x : ℕ) (beyond : cells_of key + 1 < i) where
@@ -30,7 +30,7 @@ module _ (key : Key) (s : State Slot View) (h : Holds key s) (id : ℕ) (v : Vie
 
   -- a word behind the turns is written, by a seat that keeps its turns and columns
   pub mark_rule : (w : View) → w.room ≡ v.room → w.seen ≡ v.seen → w.turns ≡ v.turns → w.column ≡ v.column → w.gap ≡ v.gap → w.coming ≡ v.coming → w.outer ≡ v.outer → w.owns ≡ v.owns
-      → Stops (cells_of key) (set s.words i x) (set s.views id w) → (c : List (ℕ × Slot)) → Holds key (stepped s i x id c w keeps)
+      → StopWord (cells_of key) (set s.words i x) (set s.views id w) → (c : List (ℕ × Slot)) → Holds key (stepped s i x id c w keeps)
   mark_rule w room seen turns column gap coming outer owns stops c = record {
     long = length-set s.words i x ∙ h.long;
     deep = h.deep;
@@ -55,7 +55,7 @@ marks key slots id me i x beyond s h deep at bound = (
   refl,
 )
 
-pub stops_here : (key : Key) (halt : Halt) (slots id : ℕ) (me : Me Slot View) (i : ℕ) → i ≡ cells_of key + 2 → Allows (Holds key) slots id me i (λ n. 1) (λ n. halted halt (step slots i 1 0 none) me 1)
+pub stops_here : (key : Key) (halt : Halt) (slots id : ℕ) (me : Me Slot View) (i : ℕ) → i ≡ cells_of key + 2 → Allows (Holds key) slots id me i (λ n. 1) (λ n. set_stop halt (step slots i 1 0 none) me 1)
 stops_here key halt slots id me i e s h deep at bound = (
   halted_view i halt me.0,
   keeps,
@@ -68,7 +68,7 @@ stops_here key halt slots id me i e s h deep at bound = (
 -- a look at a word changes nothing but what the seat was told
 module _ (key : Key) (id : ℕ) (me : Me Slot View) (i : ℕ) (beyond : cells_of key + 1 < i) where
   looks : (s : State Slot View) (h : Holds key s) → get_elem? s.views id ≡ some me.0 → (w : View) → w.room ≡ me.0.room → w.seen ≡ me.0.seen → w.turns ≡ me.0.turns → w.column ≡ me.0.column → w.gap ≡ me.0.gap
-      → w.coming ≡ me.0.coming → w.outer ≡ me.0.outer → w.owns ≡ me.0.owns → Stops (cells_of key) (set s.words i (slice_index s.words i)) (set s.views id w) → Holds key (stepped s i (slice_index s.words i) id me.1 w keeps)
+      → w.coming ≡ me.0.coming → w.outer ≡ me.0.outer → w.owns ≡ me.0.owns → StopWord (cells_of key) (set s.words i (slice_index s.words i)) (set s.views id w) → Holds key (stepped s i (slice_index s.words i) id me.1 w keeps)
   looks s h at w room seen turns column gap coming outer owns stops = mark_rule key s h id me.0 at i (slice_index s.words i) beyond w room seen turns column gap coming outer owns stops me.1
 
   same_word : (s : State Slot View) (j : ℕ) → slice_index (set s.words i (slice_index s.words i)) j ≡ slice_index s.words j

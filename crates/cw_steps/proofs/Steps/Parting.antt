@@ -23,7 +23,7 @@ use Rattle.cw_steps.proofs.Counts.{set_there, total_set, total_snoc}
 use Rattle.cw_steps.proofs.Concerns.Clock.{clock_views}
 use Rattle.cw_steps.proofs.Concerns.Turns.{turns_views}
 use Rattle.cw_steps.proofs.Concerns.Tiers.{tiers_views}
-use Rattle.cw_steps.proofs.Concerns.Stops.{halted_set, stops_views}
+use Rattle.cw_steps.proofs.Concerns.StopWord.{halted_set, stops_views}
 
 module _ (key : Key) (s : State Slot View) (h : Holds key s) where
   -- what the rule says of one view
@@ -51,9 +51,6 @@ module _ (key : Key) (s : State Slot View) (h : Holds key s) where
     tiers = tiers_views (cells_of key) key.columns h.used s.words s.homes s.views views h.tiers (λ k u at. (each k u at).brings) (λ k u at. (each k u at).stands);
     stops = stops_views (cells_of key) s.words s.views views h.stops kept (λ k u at. (each k u at).told);
   }
-
-  no_turns : (u : View) → u.turns ≡ [] → BringsHome (cells_of key) h.used u
-  no_turns u e = subst (All (λ (t : Turn). t.slot ≡ cells_of key → t.used ≡ h.used)) (sym e) (All-nil (λ (t : Turn). t.slot ≡ cells_of key → t.used ≡ h.used))
 
   -- a new seat, for which no other does without numbers or turns of its own
   module _ (id : ℕ) (v : View) (at : get_elem? s.views id ≡ some v) (w u : View) (room : w.room + u.room ≤ v.room) (owns : w.owns + u.owns ≤ v.owns) (turns : w.turns ≡ v.turns) (none : u.turns ≡ [])

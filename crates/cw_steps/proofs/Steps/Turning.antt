@@ -26,7 +26,7 @@ use Rattle.cw_steps.proofs.Concerns.Clock.{clock_set}
 use Rattle.cw_steps.proofs.Concerns.Turns.{turns_set}
 use Rattle.cw_steps.proofs.Concerns.Cells.{cells_set, low_more}
 use Rattle.cw_steps.proofs.Concerns.Tiers.{tiers_set}
-use Rattle.cw_steps.proofs.Concerns.Stops.{stops_stay}
+use Rattle.cw_steps.proofs.Concerns.StopWord.{stops_stay}
 use Rattle.cw_steps.proofs.Steps.Words.{word_here, word_else}
 
 module _ (key : Key) (s : State Slot View) (h : Holds key s) (id : ℕ) (v : View) (at : get_elem? s.views id ≡ some v) (c : ℕ) (there : c ≤ cells_of key) where

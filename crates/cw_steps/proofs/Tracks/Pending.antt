@@ -6,7 +6,7 @@ use Rattle.std.proofs.lemmas.List.{append-nil, drop_at, length-drop, length-map,
 use Rattle.cw_log.specs.declared.log.Above.{Above}
 use Rattle.cw_steps.specs.declared.track.Stood.{Stood}
 use Rattle.cw_steps.specs.Tracks.{begins, first_begun, innermost_of, arounds_of, are_within}
-use Rattle.cw_steps.specs.Stands.{blocks_outside, opens}
+use Rattle.cw_steps.specs.Stands.{blocks_outside, open_forks}
 use Rattle.cw_steps.specs.Around.{innermost, outwards, gone_over}
 
 -- ## Those that were begun first
@@ -102,7 +102,7 @@ within_less blocks (o ∷ os) own h = both_within (length (drop 1 blocks)) o os 
 
 -- as what a token stands for has it
 pub is_own : (blocks : List Above) (os : List Stood) (ws : List (List ℕ)) → ws ≡ arounds_of blocks os → are_within (length blocks) os ≡ true
-    → blocks_outside (opens os (outwards ws)) < length (innermost ws) → IsOwn blocks os
+    → blocks_outside (open_forks os (outwards ws)) < length (innermost ws) → IsOwn blocks os
 is_own blocks [] ws e h less =
     let around : length (innermost ws) ≡ length blocks = ap (λ us. length (innermost us)) e ∙ length-map blocks (λ a. a.begin) in
     omega (arith, less, around)

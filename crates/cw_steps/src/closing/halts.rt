@@ -3,7 +3,7 @@ ghost use Rattle.std.specs.Prelude.{◌≡◌, ◌<◌, ◌==◌, Some, length, 
 ghost use Rattle.std.specs.Option.{option_map_or};
 ghost use Rattle.cw_tree.specs.Nodes.{block_with_stamp};
 ghost use Rattle.cw_tree.specs.Series.{strand_of};
-ghost use Rattle.cw_course.specs.Closings.{halt_in, last_conflict, last_of, tree_of};
+ghost use Rattle.cw_course.specs.Closings.{halt_in, last_conflict, last_of_conflicts, tree_of};
 ghost use Rattle.cw_steps.specs.Leaving.{logs_of_track, HasBases};
 
 use super::bases::Bases;
@@ -52,7 +52,7 @@ fn spender(tree: &Tree, victim: u64, strand: u32) -> u32
 
 /// The victim of the last of these conflicts, or 0.
 fn last_of(conflicts: &[Conflict]) -> u64
-    ensures { result ≡ option_map_or (λ c. c.victim) (last_of conflicts.now) 0 }
+    ensures { result ≡ option_map_or (λ c. c.victim) (last_of_conflicts conflicts.now) 0 }
 {
     match conflicts.last() {
         Some(conflict) => conflict.victim,

@@ -3,7 +3,7 @@ ghost use Rattle.std.specs.Prelude.{◌≡◌, ◌<◌, IfOk};
 ghost use Rattle.std.specs.List.Sorted.{IsStrictlyIncreasing};
 ghost use Rattle.cw_tree.specs.AccessStacks.{stamps};
 ghost use Rattle.cw_stack.specs.Cells.{AreSteps};
-ghost use Rattle.cw_steps.specs.Leaving.{AreJournals, HasReturned, IsJournal};
+ghost use Rattle.cw_steps.specs.Leaving.{AreFoundJournals, HasReturned, IsFoundJournal};
 ghost use Rattle.cw_steps.specs.Stands.{token_of};
 ghost use Rattle.cw_steps.specs.Views.{cells_of, key_of, IsTokenOf};
 
@@ -33,7 +33,7 @@ impl Shared {
     ) -> Result<Seq<Entry>, OutOfMemory>
         requires table { IsTokenOf self.now token.old }
         requires cell { cell < cells_of (key_of self.now) }
-        ensures journal { IfOk result (λ es. IsJournal (key_of self.now) token.old.seat.me cell es) }
+        ensures journal { IfOk result (λ es. IsFoundJournal (key_of self.now) token.old.seat.me cell es) }
         ensures table { IsTokenOf self.now token.new }
         ensures looked { HasReturned token.old.seat.me token.new.seat.me }
         ensures room { token.new.track.room ≡ token.old.track.room }
@@ -58,7 +58,7 @@ impl Shared {
         token: &mut StrandToken,
     ) -> Result<Seq<Seq<Entry>>, OutOfMemory>
         requires { IsTokenOf self.now token.old }
-        ensures journals { IfOk result (λ js. AreJournals (key_of self.now) token.old.seat.me js) }
+        ensures journals { IfOk result (λ js. AreFoundJournals (key_of self.now) token.old.seat.me js) }
         ensures table { IsTokenOf self.now token.new }
         ensures looked { HasReturned token.old.seat.me token.new.seat.me }
         ensures room { token.new.track.room ≡ token.old.track.room }

@@ -1,6 +1,6 @@
 //! What a token shows, and the room that it takes ahead.
 ghost use Rattle.std.specs.Prelude.{◌≡◌, OnOk, reverse};
-ghost use Rattle.cw_steps.specs.Tracks.{begins, column_in, halt_of, one_more, track_of, tries_of, turned, CanPart, IsReady};
+ghost use Rattle.cw_steps.specs.Tracks.{begins, column_of_strand, halt_of, one_more, track_of, tries_of, turned_track, CanPart, IsReady};
 ghost use Rattle.cw_tree.specs.Nodes.{stamp_of};
 ghost use Rattle.cw_log.specs.Tokens as tokens;
 ghost use Rattle.cw_steps.specs.Stands.{token_of};
@@ -96,7 +96,7 @@ impl StrandToken {
 
     /// The column of a strand of its own log in which it stands: its own, or one that waits for a fork.
     pub fn column_of(&self, strand: u32) -> u32
-        ensures { result ≡ column_in (track_of self.now.track) strand }
+        ensures { result ≡ column_of_strand (track_of self.now.track) strand }
     {
         self.track.column_of(strand)
     }
@@ -114,7 +114,7 @@ impl StrandToken {
     /// From the left strand of an inline fork to the right one, and from there to the strand that forked.
     pub fn next_branch(&mut self)
         ensures seat { self.new.seat ≡ self.old.seat }
-        ensures track { track_of self.new.track ≡ turned (track_of self.old.track) }
+        ensures track { track_of self.new.track ≡ turned_track (track_of self.old.track) }
         ensures stop { self.new.stop ≡ self.old.stop }
         ensures room { self.new.track.room ≡ self.old.track.room }
         ensures token { token_of self.new ≡ tokens.turned (token_of self.old) }

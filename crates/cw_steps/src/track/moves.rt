@@ -3,7 +3,7 @@ ghost use Rattle.std.specs.Prelude.{◌≡◌, ℕ, ◌+◌, ◌<◌, ◌^◌, t
 ghost use Rattle.cw_tree.specs.Nodes as nodes;
 ghost use Rattle.cw_steps.specs.declared.draw.Home.TheVariants as home_of;
 ghost use Rattle.cw_steps.specs.Tracks as tracks;
-ghost use Rattle.cw_steps.specs.Tracks.{added, added_home, brought, drawn, begun, closed_at, forked_at, made_at, refused_at, settled, track_of, kind_of_access, IsReady};
+ghost use Rattle.cw_steps.specs.Tracks.{added, added_home, brought, drawn, track_in_block, closed_at, forked_at, made_at, refused_at, settled, track_of, kind_of_access, IsReady};
 
 use super::pending::{count, one_more, pop_innermost, tail_behind, tail_tried};
 use super::{Ahead, PLAIN, Stood, Track};
@@ -86,7 +86,7 @@ impl Track {
 
     fn begin(&mut self, stamp: u64)
         requires { IsReady self.old 1 }
-        ensures track { track_of self.new ≡ begun (track_of self.old) stamp }
+        ensures track { track_of self.new ≡ track_in_block (track_of self.old) stamp }
         ensures ready { (n : ℕ) → IsReady self.old (1 + n) → IsReady self.new n }
         ensures kept { (self.new.spare ≡ self.old.spare) × (self.new.room ≡ self.old.room) }
     {

@@ -2,7 +2,7 @@
 ghost use Rattle.std.specs.Prelude.{◌≡◌, ◌<◌, ◌≤◌, ◌+◌, ◌^◌, [], ◌∷◌, IfOk, OnOk, None, Some, length, reverse, vec_capacity};
 ghost use Rattle.cw_tree.specs.declared.node.Kind.TheVariants as kinds;
 ghost use Rattle.cw_tree.specs.Nodes as nodes;
-ghost use Rattle.cw_steps.specs.Tracks.{fresh_track, note_track, parted, right_track, settled, stood_by, taken_in, track_of, CanPart, HasRoom, IsReady};
+ghost use Rattle.cw_steps.specs.Tracks.{fresh_track, note_track, parted, right_track, settled, stood_by, joined_track, track_of, CanPart, HasRoom, IsReady};
 
 use super::moves::fresh_node;
 use super::pending::{copy, cut};
@@ -192,7 +192,7 @@ impl Track {
     pub(crate) fn take_in(&mut self, ended: Track)
         requires given { HasRoom ended }
         requires long { length self.old.joined + length ended.joined + 1 < 2 ^ 63 }
-        ensures track { track_of self.new ≡ taken_in (track_of self.old) (track_of ended) }
+        ensures track { track_of self.new ≡ joined_track (track_of self.old) (track_of ended) }
         ensures room { self.new.room ≡ self.old.room }
     {
         let Track { joined, .. } = self;

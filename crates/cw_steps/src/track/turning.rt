@@ -1,6 +1,6 @@
 //! From one strand of an inline fork to the next.
 ghost use Rattle.std.specs.Prelude.{◌≡◌};
-ghost use Rattle.cw_steps.specs.Tracks.{column_in, track_of, turned};
+ghost use Rattle.cw_steps.specs.Tracks.{column_of_strand, track_of, turned_track};
 
 use super::pending::cut;
 use super::{PLAIN, Stood, Track};
@@ -10,7 +10,7 @@ use cw_log::Side;
 impl Track {
     /// From the left strand of an inline fork to the right one, and from there to the strand that forked.
     pub(crate) fn turn(&mut self)
-        ensures track { track_of self.new ≡ turned (track_of self.old) }
+        ensures track { track_of self.new ≡ turned_track (track_of self.old) }
         ensures kept { (self.new.spare ≡ self.old.spare) × (self.new.room ≡ self.old.room) }
     {
         let Track {
@@ -55,7 +55,7 @@ impl Track {
 
     /// The column of a strand in which it stands, its own or one that waits, or 0.
     pub(crate) fn column_of(&self, strand: u32) -> u32
-        ensures { result ≡ column_in (track_of self.now) strand }
+        ensures { result ≡ column_of_strand (track_of self.now) strand }
     {
         if strand == self.strand {
             return self.column;

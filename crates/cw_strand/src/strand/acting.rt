@@ -9,7 +9,7 @@ use cw_base::OutOfMemory;
 use cw_code::{Back, Code, Effect, FaultKind, Instr, effect_at};
 
 impl Strand {
-    ghost use Rattle.cw_strand.specs.Acting.{Acts, Needs, led_to};
+    ghost use Rattle.cw_strand.specs.Acting.{TakesEffect, Needs, led_to};
     ghost use Rattle.cw_strand.specs.Standing.{StandsIn};
 
     /// A value takes the place of the operand that stands for it; what is to be written back comes before all else.
@@ -83,7 +83,7 @@ impl Strand {
         next: usize,
     ) -> Result<Led, OutOfMemory>
         requires { Needs code.now effect instr self.old }
-        ensures { IfOk result (λ l. Acts code.now effect instr next self.old l self.new) }
+        ensures { IfOk result (λ l. TakesEffect code.now effect instr next self.old l self.new) }
     {
         match effect {
             Effect::Push => self.push(instr, next),

@@ -39,11 +39,11 @@ pub fn take_locals(
 }
 
 impl Strand {
-    ghost use Rattle.cw_strand.specs.Acting.{Acts, HasArguments, entered};
+    ghost use Rattle.cw_strand.specs.Acting.{TakesEffect, HasArguments, function_entered};
 
     /// Spends a unit of fuel, within the limit.
     pub(crate) fn tick(&mut self, next: usize) -> Led
-        ensures { (code : Code) (i : Instr) → Acts code tick i next self.old result self.new }
+        ensures { (code : Code) (i : Instr) → TakesEffect code tick i next self.old result self.new }
     {
         if self.fuel >= self.limits.fuel {
             return Led::Wants(Want::Fault(FaultKind::Fuel));
@@ -62,7 +62,7 @@ impl Strand {
     ) -> Result<Led, OutOfMemory>
         requires there { index instr.a < length code.now.funcs }
         requires takes { (f : Func) → slice_get code.now.funcs (index instr.a) ≡ Some f → HasArguments f self.old }
-        ensures { IfOk result (λ l. Acts code.now call instr next self.old l self.new) }
+        ensures { IfOk result (λ l. TakesEffect code.now call instr next self.old l self.new) }
     {
         if self.fuel >= self.limits.fuel {
             return Ok(Led::Wants(Want::Fault(FaultKind::Fuel)));
@@ -81,7 +81,7 @@ impl Strand {
     /// The first step into a function.
     fn enter(&mut self, func: Func, next: usize) -> Result<(), OutOfMemory>
         requires { HasArguments func self.old }
-        ensures { OnOk result (self.new ≡ entered func next self.old) }
+        ensures { OnOk result (self.new ≡ function_entered func next self.old) }
     {
         let alloc = *self.locals.allocator();
         let locals = take_locals(alloc, &mut self.operands, &func)?;
@@ -98,7 +98,7 @@ impl Strand {
     /// Goes back to the function that waits, with one operand more there, or ends where none waits.
     pub(crate) fn ret(&mut self) -> Result<Led, OutOfMemory>
         requires { 0 < length self.old.current.operands }
-        ensures { (code : Code) (i : Instr) (p : ℕ) → IfOk result (λ l. Acts code ret i p self.old l self.new) }
+        ensures { (code : Code) (i : Instr) (p : ℕ) → IfOk result (λ l. TakesEffect code ret i p self.old l self.new) }
     {
         let Some(frame) = self.callers.pop() else {
             return Ok(self.finish());

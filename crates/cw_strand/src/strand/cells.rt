@@ -12,7 +12,7 @@ use cw_base::OutOfMemory;
 use cw_code::{FaultKind, Instr};
 
 impl Strand {
-    ghost use Rattle.cw_strand.specs.Acting.{Acts, led_to};
+    ghost use Rattle.cw_strand.specs.Acting.{TakesEffect, led_to};
 
     /// Wants what counts one, within the limit.
     pub(crate) fn count(&mut self, want: Want) -> Led
@@ -28,7 +28,7 @@ impl Strand {
     /// Wants a cell's value, for which an operand stands till it comes.
     pub(crate) fn load(&mut self, instr: Instr, next: usize) -> Result<Led, OutOfMemory>
         requires { index instr.a < 2 ^ 32 }
-        ensures { (code : Code) → IfOk result (λ l. Acts code load instr next self.old l self.new) }
+        ensures { (code : Code) → IfOk result (λ l. TakesEffect code load instr next self.old l self.new) }
     {
         self.operands.push(0)?;
         self.place = next;
@@ -39,7 +39,7 @@ impl Strand {
     pub(crate) fn store(&mut self, instr: Instr, next: usize) -> Led
         requires there { index instr.a < 2 ^ 32 }
         requires room { 0 < length self.old.current.operands }
-        ensures { (code : Code) → Acts code store instr next self.old result self.new }
+        ensures { (code : Code) → TakesEffect code store instr next self.old result self.new }
     {
         let Some(value) = self.operands.pop() else {
             unreachable!()
@@ -52,7 +52,7 @@ impl Strand {
     pub(crate) fn load_at(&mut self, instr: Instr, next: usize) -> Result<Led, OutOfMemory>
         requires there { index instr.a + instr.b ≤ 2 ^ 32 }
         requires room { 0 < length self.old.current.operands }
-        ensures { (code : Code) → IfOk result (λ l. Acts code load_at instr next self.old l self.new) }
+        ensures { (code : Code) → IfOk result (λ l. TakesEffect code load_at instr next self.old l self.new) }
     {
         let Some(number) = self.operands.pop() else {
             unreachable!()
@@ -74,7 +74,7 @@ impl Strand {
     pub(crate) fn store_at(&mut self, instr: Instr, next: usize) -> Result<Led, OutOfMemory>
         requires there { index instr.a + instr.b ≤ 2 ^ 32 }
         requires room { 1 < length self.old.current.operands }
-        ensures { (code : Code) → IfOk result (λ l. Acts code store_at instr next self.old l self.new) }
+        ensures { (code : Code) → IfOk result (λ l. TakesEffect code store_at instr next self.old l self.new) }
     {
         let (Some(value), Some(number)) = (self.operands.pop(), self.operands.pop()) else {
             unreachable!()
@@ -95,7 +95,7 @@ impl Strand {
     /// Wants an operand to be put out.
     pub(crate) fn out(&mut self, next: usize) -> Led
         requires { 0 < length self.old.current.operands }
-        ensures { (code : Code) (i : Instr) → Acts code out i next self.old result self.new }
+        ensures { (code : Code) (i : Instr) → TakesEffect code out i next self.old result self.new }
     {
         let Some(value) = self.operands.pop() else {
             unreachable!()

@@ -11,12 +11,12 @@ use cw_base::OutOfMemory;
 use cw_code::Instr;
 
 impl Strand {
-    ghost use Rattle.cw_strand.specs.Acting.{Acts};
+    ghost use Rattle.cw_strand.specs.Acting.{TakesEffect};
 
     /// A local's value is one operand more.
     pub(crate) fn read_local(&mut self, instr: Instr, next: usize) -> Result<Led, OutOfMemory>
         requires { index instr.a < length self.old.current.locals }
-        ensures { (code : Code) → IfOk result (λ l. Acts code local instr next self.old l self.new) }
+        ensures { (code : Code) → IfOk result (λ l. TakesEffect code local instr next self.old l self.new) }
     {
         let value = self.locals[index(instr.a)];
         self.operands.push(value)?;
@@ -28,7 +28,7 @@ impl Strand {
     pub(crate) fn write_local(&mut self, instr: Instr, next: usize) -> Led
         requires there { index instr.a < length self.old.current.locals }
         requires room { 0 < length self.old.current.operands }
-        ensures { (code : Code) → Acts code set instr next self.old result self.new }
+        ensures { (code : Code) → TakesEffect code set instr next self.old result self.new }
     {
         let Some(value) = self.operands.pop() else {
             unreachable!()

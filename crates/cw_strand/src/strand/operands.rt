@@ -22,11 +22,11 @@ pub fn index(a: i64) -> usize
 }
 
 impl Strand {
-    ghost use Rattle.cw_strand.specs.Acting.{Acts};
+    ghost use Rattle.cw_strand.specs.Acting.{TakesEffect};
 
     /// One operand more.
     pub(crate) fn push(&mut self, instr: Instr, next: usize) -> Result<Led, OutOfMemory>
-        ensures { (code : Code) → IfOk result (λ l. Acts code push instr next self.old l self.new) }
+        ensures { (code : Code) → IfOk result (λ l. TakesEffect code push instr next self.old l self.new) }
     {
         self.operands.push(instr.a)?;
         self.place = next;
@@ -36,7 +36,7 @@ impl Strand {
     /// One operand less.
     pub(crate) fn drop_top(&mut self, next: usize) -> Led
         requires { 0 < length self.old.current.operands }
-        ensures { (code : Code) (i : Instr) → Acts code drop_top i next self.old result self.new }
+        ensures { (code : Code) (i : Instr) → TakesEffect code drop_top i next self.old result self.new }
     {
         let _ = self.operands.pop();
         self.place = next;
@@ -46,7 +46,7 @@ impl Strand {
     /// An operator's result takes the place of its one operand.
     pub(crate) fn lift(&mut self, operator: Operator, next: usize) -> Result<Led, OutOfMemory>
         requires { 0 < length self.old.current.operands }
-        ensures { (code : Code) (i : Instr) → IfOk result (λ l. Acts code (lift operator) i next self.old l self.new) }
+        ensures { (code : Code) (i : Instr) → IfOk result (λ l. TakesEffect code (lift operator) i next self.old l self.new) }
     {
         let Some(x) = self.operands.pop() else {
             unreachable!()
@@ -67,7 +67,7 @@ impl Strand {
     /// An operator's result takes the place of its two operands.
     pub(crate) fn join(&mut self, operator: Operator, next: usize) -> Result<Led, OutOfMemory>
         requires { 1 < length self.old.current.operands }
-        ensures { (code : Code) (i : Instr) → IfOk result (λ l. Acts code (join operator) i next self.old l self.new) }
+        ensures { (code : Code) (i : Instr) → IfOk result (λ l. TakesEffect code (join operator) i next self.old l self.new) }
     {
         let (Some(y), Some(x)) = (self.operands.pop(), self.operands.pop()) else {
             unreachable!()
@@ -88,7 +88,7 @@ impl Strand {
 
     /// Goes on elsewhere.
     pub(crate) fn jump(&mut self, instr: Instr) -> Led
-        ensures { (code : Code) (p : ℕ) → Acts code jump instr p self.old result self.new }
+        ensures { (code : Code) (p : ℕ) → TakesEffect code jump instr p self.old result self.new }
     {
         self.place = index(instr.a);
         Led::On
@@ -97,7 +97,7 @@ impl Strand {
     /// Goes on elsewhere where the newest operand is 0.
     pub(crate) fn jump_zero(&mut self, instr: Instr, next: usize) -> Led
         requires { 0 < length self.old.current.operands }
-        ensures { (code : Code) → Acts code jump_zero instr next self.old result self.new }
+        ensures { (code : Code) → TakesEffect code jump_zero instr next self.old result self.new }
     {
         let Some(value) = self.operands.pop() else {
             unreachable!()

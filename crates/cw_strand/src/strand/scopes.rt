@@ -12,12 +12,12 @@ use cw_base::{OutOfMemory, Stack};
 use cw_code::{FaultKind, Instr};
 
 impl Strand {
-    ghost use Rattle.cw_strand.specs.Acting.{Acts};
+    ghost use Rattle.cw_strand.specs.Acting.{TakesEffect};
     ghost use Rattle.cw_strand.specs.Standing.{NoneOver};
 
     /// A block begins, with a scope.
     pub(crate) fn begin(&mut self, next: usize) -> Result<Led, OutOfMemory>
-        ensures { (code : Code) (i : Instr) → IfOk result (λ l. Acts code begin i next self.old l self.new) }
+        ensures { (code : Code) (i : Instr) → IfOk result (λ l. TakesEffect code begin i next self.old l self.new) }
     {
         self.scopes.open()?;
         self.place = next;
@@ -26,7 +26,7 @@ impl Strand {
 
     /// A block ends, and its scope.
     pub(crate) fn end(&mut self, next: usize) -> Led
-        ensures { (code : Code) (i : Instr) → Acts code end i next self.old result self.new }
+        ensures { (code : Code) (i : Instr) → TakesEffect code end i next self.old result self.new }
     {
         let _ = self.scopes.pop();
         self.place = next;
@@ -35,7 +35,7 @@ impl Strand {
 
     /// A block is given up.
     pub(crate) fn cancel(&mut self, next: usize) -> Led
-        ensures { (code : Code) (i : Instr) → Acts code cancel i next self.old result self.new }
+        ensures { (code : Code) (i : Instr) → TakesEffect code cancel i next self.old result self.new }
     {
         self.place = next;
         self.count(Want::Cancel)
@@ -44,7 +44,7 @@ impl Strand {
     /// A strand is to begin behind the fork; this one goes on at the fork's target, and the innermost scope has one fork more to wait for.
     pub(crate) fn spawn(&mut self, instr: Instr, next: usize) -> Result<Led, OutOfMemory>
         requires { NoneOver self.old.size self.old.scopes }
-        ensures { (code : Code) → IfOk result (λ l. Acts code fork instr next self.old l self.new) }
+        ensures { (code : Code) → IfOk result (λ l. TakesEffect code fork instr next self.old l self.new) }
     {
         if self.size >= u64::from(self.limits.size) {
             return Ok(Led::Wants(Want::Fault(FaultKind::Size)));
@@ -59,7 +59,7 @@ impl Strand {
 
     /// Ends as the right strand of a fork that the innermost scope has to wait for, or goes on.
     pub(crate) fn wait(&mut self, next: usize) -> Result<Led, OutOfMemory>
-        ensures { (code : Code) (i : Instr) → IfOk result (λ l. Acts code sync i next self.old l self.new) }
+        ensures { (code : Code) (i : Instr) → IfOk result (λ l. TakesEffect code sync i next self.old l self.new) }
     {
         match self.scopes.newest() {
             Some(forks) if forks > 0 => {
@@ -77,7 +77,7 @@ impl Strand {
     /// Comes to its end. With no scope open but its own it keeps no locals and no scope, and no room: of a strand that has ended only what it
     /// spent and counted is read.
     pub(crate) fn finish(&mut self) -> Led
-        ensures { (code : Code) (i : Instr) (p : ℕ) → Acts code done i p self.old result self.new }
+        ensures { (code : Code) (i : Instr) (p : ℕ) → TakesEffect code done i p self.old result self.new }
     {
         if self.scopes.len() == 1 {
             let alloc = *self.locals.allocator();

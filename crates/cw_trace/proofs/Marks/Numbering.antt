@@ -1,5 +1,5 @@
 -- Lists of numbers that have marks, no two the same.
-use Rattle.std.proofs.Common.{◌≡◌, ◌≢◌, ℕ, zero, suc, ◌+◌, ◌<◌, List, [], ◌∷◌, map, refl, ap, sym, ◌∙◌, arith, Bool, true, false, cond, Option, Some, None, nat_eq, not, inl, inr, eq-eqb, eqb-true}
+use Rattle.std.proofs.Common.{◌≡◌, ◌≢◌, ℕ, suc, ◌+◌, ◌<◌, List, [], ◌∷◌, map, refl, ap, sym, ◌∙◌, arith, Bool, true, false, cond, Option, Some, None, nat_eq, not, inl, inr, eq-eqb, eqb-true}
 use Rattle.std.specs.Prelude.{◌⊎◌, ◌||◌, ◌↔◌, if◌then◌else◌}
 use Rattle.std.specs.List.{filter, Contains, IsDistinct, AllByRecursion}
 use Rattle.std.proofs.lemmas.Bool.{ne_eqb, cases_eq, or_left, or_right, or_cases}
@@ -17,11 +17,6 @@ has_later x xs y h = or_right (nat_eq x y) (has xs y) h
 
 pub has_cases : (x : ℕ) (xs : List ℕ) (y : ℕ) → has (x ∷ xs) y ≡ true → (x ≡ y) ⊎ (has xs y ≡ true)
 has_cases x xs y h = elim (or_cases (nat_eq x y) (has xs y) h) [ inl e ↦ inl (eqb-true x y e) | inr e ↦ inr e ]
-
-pub contains_has : (xs : List ℕ) (y : ℕ) → Contains xs y → has xs y ≡ true
-contains_has [] y (k, within, e) = absurd (omega arith)
-contains_has (x ∷ xs) y (zero, within, e) = has_here x xs y e
-contains_has (x ∷ xs) y (suc k, within, e) = has_later x xs y (contains_has xs y (k, omega arith, e))
 
 pub has_contains : (xs : List ℕ) (y : ℕ) → has xs y ≡ true → Contains xs y
 has_contains [] y h = absurd (cc h)

@@ -1,8 +1,8 @@
 -- What is beyond the columns names no trace, and what names no trace has no marks.
-use Rattle.std.proofs.Common.{◌≡◌, ◌≢◌, ℕ, ◌≤◌, ◌<◌, List, length, ap, refl, ◌∙◌, arith, Bool, true, false, inl, inr, ⊎_elim, nat_eq, nat_lt, eqb-true, eq-eqb}
+use Rattle.std.proofs.Common.{◌≡◌, ◌≢◌, ℕ, ◌≤◌, List, length, ap, refl, ◌∙◌, arith, Bool, true, false, inl, inr, ⊎_elim, nat_eq, eqb-true, eq-eqb}
 use Rattle.std.specs.Prelude.{◌⊎◌, ◌/◌, ◌%◌, is_some}
 use Rattle.cw_tree.specs.Walks.{has}
-use Rattle.std.proofs.lemmas.Bool.{false_from_ne_true, ltb-true, ltb-false}
+use Rattle.std.proofs.lemmas.Bool.{false_from_ne_true}
 use Rattle.std.proofs.lemmas.Option.{slice_get_past}
 use Rattle.cw_trace.specs.Columns.{ColumnTable, is_trace, opening_mark, closing_mark, stands_before, trace_in}
 use Rattle.cw_trace.specs.Tier.{AreSound}
@@ -10,12 +10,6 @@ use Rattle.cw_trace.proofs.Marks.Marking.{before_first, before_second}
 
 pub no_trace : (c : ColumnTable) (t : ℕ) → length c.traces ≤ t → is_trace c t ≡ false
 no_trace c t h = ap (λ o. is_some (trace_in o)) (slice_get_past c.traces t h)
-
-pub trace_low : (c : ColumnTable) (t : ℕ) → is_trace c t ≡ true → t < length c.traces
-trace_low c t e = by_test (nat_lt t (length c.traces)) refl where
-  by_test : (b : Bool) → nat_lt t (length c.traces) ≡ b → t < length c.traces
-  by_test true h = ltb-true t (length c.traces) h
-  by_test false h = absurd (let no = no_trace c t (ltb-false t (length c.traces) h) in cc (e, no))
 
 half_of : (b : ℕ) → (b ≡ opening_mark (b / 2)) ⊎ (b ≡ closing_mark (b / 2))
 half_of b = by_test (nat_eq (b % 2) 0) refl where
@@ -32,9 +26,6 @@ marked c s b = by_trace (is_trace c (b / 2)) refl where
       (λ k. ap (has c.brackets) k ∙ (s.there (b / 2) e).0)
       (λ k. ap (has c.brackets) k ∙ (s.there (b / 2) e).1)
       (half_of b)
-
-pub mark_low : (c : ColumnTable) → AreSound c → (b : ℕ) → has c.brackets b ≡ true → b / 2 < length c.traces
-mark_low c s b e = trace_low c (b / 2) (s.only b e)
 
 pub not_before : (ms : List ℕ) (a b : ℕ) → (has ms a ≡ false) ⊎ (has ms b ≡ false) → stands_before ms a b ≡ false
 not_before ms a b h =

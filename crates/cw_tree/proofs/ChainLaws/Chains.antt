@@ -12,7 +12,7 @@ use Rattle.cw_tree.specs.AccessStacks.{AreThere}
 use Rattle.cw_tree.specs.ChainLaws.{EachFollows, SomeAreChains, PartsAreChains, BeneathIsEnd}
 use Rattle.cw_tree.proofs.Lists.{In}
 use Rattle.cw_tree.proofs.ChainLaws.Nearest.{Passes, follows_passes, passes_follows}
-use Rattle.cw_tree.proofs.Members.{all_at, all_of}
+use Rattle.cw_tree.proofs.Members.{all_at, all_of, map_in}
 
 pub there_in : (k : ℕ) (us : List ℕ) → All (λ u. u < k) us → (u : ℕ) → In u us → u < k
 there_in k us h u i = all_at (λ u. u < k) us h u i
@@ -102,11 +102,6 @@ all_pass p (x ∷ xs) f =
       ap (λ b. cond (not b) (x ∷ filter (λ u. not (p u)) xs) (filter (λ u. not (p u)) xs)) here ∙ more.1,
     )
 
-in_map : (f : ℕ → ℕ) (v : ℕ) (xs : List ℕ) → In v xs → In (f v) (map f xs)
-in_map f v [] i = i
-in_map f v (x ∷ xs) (inl e) = inl (ap f e)
-in_map f v (x ∷ xs) (inr i) = inr (in_map f v xs i)
-
 -- of accesses that f names
 pub beneath_named : (t : List Node) → IsRooted t → (b : ℕ) → is_pending t b ≡ true → (f : ℕ → ℕ) (xs : List ℕ) → AreThere t (map f xs) → IsChain t (map f xs)
     → xs ≡ filter (λ x. not (is_above t b (f x))) xs ++ filter (λ x. is_above t b (f x)) xs
@@ -116,7 +111,7 @@ beneath_named t r b pending f (x ∷ xs) h c =
     let more = beneath_named t r b pending f xs (All-tail (λ n. n < length t) (f x) (map f xs) h) (parts_are_chains t (f x ∷ []) (map f xs) c).1 in
     elim (cases_Bool (test x)) [
       | inl e ↦
-          (let all = all_pass test (x ∷ xs) (λ v i. elim i [ inl q ↦ ap test q ∙ e | inr j ↦ first_passes t r (f x) (map f xs) h c (f v) (in_map f v xs j) b pending e ]) in
+          (let all = all_pass test (x ∷ xs) (λ v i. elim i [ inl q ↦ ap test q ∙ e | inr j ↦ first_passes t r (f x) (map f xs) h c (f v) (map_in f v xs j) b pending e ]) in
           sym (ap (λ ys. ys ++ filter test (x ∷ xs)) all.1 ∙ all.0))
       | inr e ↦
           ap (λ ys. x ∷ ys) more

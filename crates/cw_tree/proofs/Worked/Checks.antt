@@ -1,12 +1,12 @@
 -- Claims on all nodes of a tree, by tests that compute.
-use Rattle.std.proofs.Common.{◌≡◌, ℕ, zero, suc, ◌<◌, List, [], ◌∷◌, length, map, refl, sym, arith, Bool, true, false, inl, inr, subst, nat_lt}
+use Rattle.std.proofs.Common.{◌≡◌, ℕ, zero, suc, ◌<◌, ◌^◌, List, [], ◌∷◌, length, map, refl, sym, arith, Bool, true, false, inl, inr, subst, nat_lt}
 use Rattle.std.specs.Prelude.{◌&&◌, ◌||◌, not, IsTrue, ◌==◌, All}
 use Rattle.std.specs.List.{list_any, filter}
 use Rattle.std.proofs.lemmas.Bool.{and_parts, and_from, ltb-true, lt-ltb, eqb-true, eq-eqb, not-true, not_from_false}
 use Rattle.cw_tree.specs.declared.node.Node.{Node}
 use Rattle.cw_tree.specs.declared.conflict.Conflict.{Conflict}
 use Rattle.cw_tree.specs.Nodes.{parent_of, stamp_of, end_of, is_strand, is_fork, is_block, is_pending, is_committed, is_aborted, is_tried}
-use Rattle.cw_tree.specs.Walks.{path, is_above}
+use Rattle.cw_tree.specs.Walks.{path, is_above, IsNumbered}
 use Rattle.cw_tree.specs.Series.{children, has_later, is_before, depth_first}
 use Rattle.cw_tree.specs.Shape.{IsTree, AreStamps, PendingLast, has_stamp, is_closed}
 use Rattle.cw_tree.specs.Refusals.{IsRecorded, AreRefusals, RollsBack, is_victim, names_victim}
@@ -201,3 +201,11 @@ module _ (t : List Node) where
 pub all_one : {X : Type 0} (P : X → Type 0) (x : X) → P x → All P (x ∷ [])
 all_one P x p zero d h = p
 all_one P x p (suc k) d h = absurd (omega arith)
+
+-- a tree is numbered where the tests tell so
+pub is_numbered : (t : List Node) → is_strand t 0 ≡ true → all_below (rooted_test t) (length t) ≡ true → length t < 2 ^ 32 → IsNumbered t
+is_numbered t root rooted few = record {
+  root = root;
+  rooted = λ n p h. ltb-true (parent_of t n) n (implied _ _ (each_below (rooted_test t) (length t) rooted n h) (lt-ltb 0 n p));
+  few = few;
+}

@@ -1,18 +1,13 @@
 -- A tree made in the order of time, and log by log.
-use Rattle.std.proofs.Common.{◌≡◌, ℕ, zero, suc, ◌<◌, length, map, ap, refl, arith, nat_lt, nat_eq, Bool, true, ◌^◌, List, [], ◌∷◌}
+use Rattle.std.proofs.Common.{◌≡◌, ℕ, zero, suc, ◌<◌, length, map, ap, refl, arith, nat_lt, nat_eq, Bool, true, [], ◌∷◌}
 use Rattle.std.specs.Prelude.{slice_get, option_map, All, ◌==◌, filter}
 use Rattle.std.proofs.lemmas.Bool.{ltb-true, lt-ltb, eqb-true, eq-eqb}
 use Rattle.std.proofs.lemmas.List.Elements.{All-cons, All-nil}
-use Rattle.cw_tree.specs.declared.node.Node.{Node}
 use Rattle.cw_tree.specs.declared.conflict.Conflict.{Conflict}
-use Rattle.cw_tree.specs.Nodes.{is_strand, parent_of, stamp_of}
-use Rattle.cw_tree.specs.Walks.{IsNumbered}
+use Rattle.cw_tree.specs.Nodes.{parent_of, stamp_of}
 use Rattle.cw_tree.specs.Worked.{interleaved}
-use Rattle.cw_tree.specs.OneTree.{node_by, conflict_by, number_in_logs, log_by_log, AreOne, OneTreeRows, refused}
-use Rattle.cw_tree.proofs.Worked.Checks.{each_below, each_pair, all_below, all_pairs, implies, implied, rooted_test}
-
-is_numbered : (t : List Node) → is_strand t 0 ≡ true → all_below (rooted_test t) (length t) ≡ true → length t < 2 ^ 32 → IsNumbered t
-is_numbered t root rooted few = record { root = root; rooted = λ n p h. ltb-true (parent_of t n) n (implied _ _ (each_below (rooted_test t) (length t) rooted n h) (lt-ltb 0 n p)); few = few }
+use Rattle.cw_tree.specs.OneTree.{node_by, conflict_by, number_in_logs, log_by_log, AreOne, OneTreeRows, conflict_of_asker}
+use Rattle.cw_tree.proofs.Worked.Checks.{each_pair, all_pairs, implies, implied, is_numbered}
 
 nodes : (n : ℕ) → n < length interleaved → slice_get log_by_log (number_in_logs n) ≡ option_map (node_by number_in_logs) (slice_get interleaved n)
 nodes zero h = refl
@@ -27,7 +22,7 @@ nodes (suc (suc (suc (suc (suc (suc (suc (suc zero)))))))) h = refl
 nodes (suc (suc (suc (suc (suc (suc (suc (suc (suc zero))))))))) h = refl
 nodes (suc (suc (suc (suc (suc (suc (suc (suc (suc (suc n)))))))))) h = absurd (omega arith)
 
-each : (n : ℕ) → n < length interleaved → filter (λ (c : Conflict). c.asker == number_in_logs n) (refused 4 ∷ refused 9 ∷ []) ≡ map (conflict_by number_in_logs) (filter (λ (c : Conflict). c.asker == n) (refused 6 ∷ refused 7 ∷ []))
+each : (n : ℕ) → n < length interleaved → filter (λ (c : Conflict). c.asker == number_in_logs n) (conflict_of_asker 4 ∷ conflict_of_asker 9 ∷ []) ≡ map (conflict_by number_in_logs) (filter (λ (c : Conflict). c.asker == n) (conflict_of_asker 6 ∷ conflict_of_asker 7 ∷ []))
 each zero h = refl
 each (suc zero) h = refl
 each (suc (suc zero)) h = refl
@@ -41,8 +36,8 @@ each (suc (suc (suc (suc (suc (suc (suc (suc (suc zero))))))))) h = refl
 each (suc (suc (suc (suc (suc (suc (suc (suc (suc (suc n)))))))))) h = absurd (omega arith)
 
 -- each of two conflicts has an asker in a tree of ten nodes
-two_low : (a b : ℕ) → a < 10 → b < 10 → All (λ (c : Conflict). c.asker < 10) (refused a ∷ refused b ∷ [])
-two_low a b h g = All-cons (λ (c : Conflict). c.asker < 10) (refused a) (refused b ∷ []) h (All-cons (λ (c : Conflict). c.asker < 10) (refused b) [] g (All-nil (λ (c : Conflict). c.asker < 10)))
+two_low : (a b : ℕ) → a < 10 → b < 10 → All (λ (c : Conflict). c.asker < 10) (conflict_of_asker a ∷ conflict_of_asker b ∷ [])
+two_low a b h g = All-cons (λ (c : Conflict). c.asker < 10) (conflict_of_asker a) (conflict_of_asker b ∷ []) h (All-cons (λ (c : Conflict). c.asker < 10) (conflict_of_asker b) [] g (All-nil (λ (c : Conflict). c.asker < 10)))
 
 one : AreOne number_in_logs interleaved log_by_log
 one = record {

@@ -1,7 +1,7 @@
 use Rattle.std.proofs.Common.{◌≡◌, ◌+◌, ◌<◌, Some, None, length, sym, ap, ◌∙◌, subst, arith}
 use Rattle.std.specs.Prelude.{slice_get, slice_index_or}
 use Rattle.cw_code.specs.Rules.{effect_of, next_of, target_of, onwards, passed}
-use Rattle.cw_code.specs.Nested.{AreBelow, IsBelow, level_of, situation_at}
+use Rattle.cw_code.specs.Nested.{AreBelow, IsBelow, level_on_arrival, situation_at}
 use Rattle.cw_code.proofs.Seen.{Leaves, below_grown, give_below, visit_seen}
 use Rattle.cw_code.proofs.finding.visit_place.Goals as goal
 
@@ -28,7 +28,7 @@ returns-in_ok-away-in-Some-places-clause-visited c =
     let known : slice_index_or c.args.places.now c.args.n None ≡ Some a = c.in-Some-places.is in
     let e = c.effect_at-effect.ensures in
     let w : Leaves code f p ns ms ls c.args.places.now c.ahead.ensures.grown c.after.ensures.grown c.requires.places i (effect_of i) a.level c.in_ok-ahead-in-Some-places.ahead c.in_ok-away-in-Some-places.away = record {
-      low = subst (λ o. IsBelow (length ns) (level_of o)) known (c.requires.places c.args.n);
+      low = subst (λ o. IsBelow (length ns) (level_on_arrival o)) known (c.requires.places c.args.n);
       made = c.in_ok-ahead-in-Some-places.ensures.made;
       on = c.in_ok-ahead-in-Some-places.ensures.leaves ∙ ap (λ x. onwards code i x (situation_at ns a.level)) e;
       off = c.in_ok-away-in-Some-places.ensures.leaves ∙ ap (λ x. passed code i x (situation_at ms a.level)) e;

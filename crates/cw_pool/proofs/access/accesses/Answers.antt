@@ -3,7 +3,7 @@ use Rattle.std.specs.Prelude.{◌<◌}
 use Rattle.std.proofs.lemmas.Int.{to_z-of_z}
 use Rattle.cw_strand.specs.declared.want.Want.{Want}
 use Rattle.cw_strand.specs.declared.want.Given.{Given}
-use Rattle.cw_job.specs.Jobs.{bare}
+use Rattle.cw_job.specs.Jobs.{bare_job}
 use Rattle.cw_log.specs.declared.board.Access.{Access}
 use Rattle.cw_log.specs.Answers.{Meets}
 use Rattle.cw_body.specs.Bodies.{AnswersAct, elements_of}
@@ -19,7 +19,7 @@ access-requires-clause-cell g c =
 pub answer-requires-clause-answers : goal.answer-requires-clause-answers
 answer-requires-clause-answers g c =
     let n = elements_of c.now.inside.body in
-    subst (λ (w : Want). AnswersAct n w c.given_for.result) (sym (sym (c.want.ensures (bare c.now.inside.body.program)) ∙ c.in-Some.ensures))
+    subst (λ (w : Want). AnswersAct n w c.given_for.result) (sym (sym (c.want.ensures (bare_job c.now.inside.body.program)) ∙ c.in-Some.ensures))
     (subst (λ (y : Given). AnswersAct n (access_want c.in-Some.cell c.in-Some.write) y) (sym c.given_for.ensures) (answers_act n c.in-Some.cell c.in-Some.write _))
 
 pub refused-now-inside-requires-clause-victim : goal.refused-now-inside-requires-clause-victim
@@ -43,4 +43,4 @@ pub invariant_of-now-in-Conflict : goal.invariant_of-now-in-Conflict
 invariant_of-now-in-Conflict g c =
     let (cell, asker, around, refused_now) = subst (λ (a : Access). Meets (g.B.SharedBoard.of c.now.inside.token) (g.B.SharedBoard.of c.access.new.token) c.in-Some.cell c.in-Some.write a) c.in-Conflict.is c.in-Ok.ensures.ok in
     refused_so _ _ _ _ _ _ _ _ _ _ _ c.in-Conflict.conflict c.in-Some.cell c.in-Some.write c.in-Goes.is c.now.invariant (sym (c.want.ensures g.J.Naming-1.job) ∙ c.in-Some.ensures)
-    (sym (c.want.ensures (bare c.now.inside.body.program)) ∙ c.in-Some.ensures) cell refused_now c.refused-now-inside.ensures
+    (sym (c.want.ensures (bare_job c.now.inside.body.program)) ∙ c.in-Some.ensures) cell refused_now c.refused-now-inside.ensures

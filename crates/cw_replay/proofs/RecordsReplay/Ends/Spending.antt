@@ -17,7 +17,7 @@ use Rattle.cw_tree.specs.Nodes as nodes
 use Rattle.cw_tree.specs.Walks.{is_ancestor}
 use Rattle.cw_tree.specs.Series.{children, strand_of, last_of}
 use Rattle.cw_tree.specs.Accesses.{is_live}
-use Rattle.cw_tree.specs.Refusals.{victim_of, is_refused_in, tells, telling, refused, may_be_last, Spent, IsRecorded}
+use Rattle.cw_tree.specs.Refusals.{victim_of, is_refused_in, tells, telling, refused_node, may_be_last, Spent, IsRecorded}
 use Rattle.cw_tree.specs.Histories.{IsHistory}
 use Rattle.cw_tree.proofs.Walks.There.{node_there}
 use Rattle.cw_tree.proofs.Walks.Ancestors.{ancestor_self, ancestor_up, ancestor_le}
@@ -180,11 +180,11 @@ module _ {A : Type 0} (s : Strands A) (t : List Node) (first : List ℤ) (kept :
       in_strand : strand_of t a ≡ x
       in_strand = ap (strand_of t) (sym is_last) ∙ eqb-true (strand_of t last_node.number) x last_node.passes
 
-      is_refused : refused t c ≡ a
+      is_refused : refused_node t c ≡ a
       is_refused = ap (λ o. option_map_or (λ v. unwrap_or (block_with_stamp t v) 0) o c.asker) none
 
       asker_live : is_live t a ≡ true
-      asker_live = ap (is_live t) (sym is_refused) ∙ (and_parts (is_live t (refused t c)) (is_tried t (refused t c) || is_pending t (refused t c)) may).0
+      asker_live = ap (is_live t) (sym is_refused) ∙ (and_parts (is_live t (refused_node t c)) (is_tried t (refused_node t c) || is_pending t (refused_node t c)) may).0
 
       stays : IsAccessOf c.cell (s.want (before a)) × (after a ≡ before a)
       stays = tried_stays s t w a c.cell tried
@@ -218,7 +218,7 @@ module _ {A : Type 0} (s : Strands A) (t : List Node) (first : List ℤ) (kept :
         no_fork = (access_stops c.cell (s.want (before a)) stays.0).1;
         shows = access_shows s c.cell (s.want (before a)) stays.0;
         stopped = (let P : ℕ → Type 0 = λ p. Stopped s t first kept cs h before after reached follows x p (s.want (before a)) in
-            subst P (sym (ap (λ o. cond (is_some o) (parent_of t (refused t c)) c.asker) none))
+            subst P (sym (ap (λ o. cond (is_some o) (parent_of t (refused_node t c)) c.asker) none))
             (stopped_there s t first kept cs h before after reached follows (parent_of t a) (s.want (before a)) (λ m. false) (refused_stopped a (λ m. false) asker_last) x a asker_low
             (child_over t h.tree.rooted (parent_of t a) a (record { some = asker_some; there = asker_low; parent = refl })) (λ b e. absurd (none_true e)) (same_strand a (λ m. false) asker_last ∙ in_strand)));
       }
@@ -226,7 +226,7 @@ module _ {A : Type 0} (s : Strands A) (t : List Node) (first : List ℤ) (kept :
     -- the victim of a conflict was begun in the strand, and is pending
     module _ (c : Conflict) (v : ℕ) (some_victim : victim_of c ≡ Some v) (told : tells t budget x c ≡ true) (may : may_be_last t c ≡ true) where
       record IsVictim (b : ℕ) : Type 0 where
-        pub is : refused t c ≡ b
+        pub is : refused_node t c ≡ b
         pub pending : is_pending t b ≡ true
         pub live : is_live t b ≡ true
         pub strand : strand_of t b ≡ x
@@ -236,7 +236,7 @@ module _ {A : Type 0} (s : Strands A) (t : List Node) (first : List ℤ) (kept :
         by : (o : Option ℕ) → block_with_stamp t v ≡ o → option_map_or (λ b. nat_eq (strand_of t b) x) o false ≡ true → (b : ℕ) × IsVictim b
         by None e f = absurd (cc f)
         by (Some b) e f =
-            let is : refused t c ≡ b = ap (λ o. option_map_or (λ v. unwrap_or (block_with_stamp t v) 0) o c.asker) some_victim ∙ ap (λ o. unwrap_or o 0) e in
+            let is : refused_node t c ≡ b = ap (λ o. option_map_or (λ v. unwrap_or (block_with_stamp t v) 0) o c.asker) some_victim ∙ ap (λ o. unwrap_or o 0) e in
             let P : ℕ → Type 0 = λ m. may_be t m ≡ true in
             let m = and_parts (is_live t b) (is_tried t b || is_pending t b) (subst P is may) in
             let block : is_block t b ≡ true = (and_parts (is_block t b) (nat_eq (stamp_of t b) v) (find_passes (λ n. is_block t n && nat_eq (stamp_of t n) v) (all_nodes t) b e)).0 in (
@@ -258,7 +258,7 @@ module _ {A : Type 0} (s : Strands A) (t : List Node) (first : List ℤ) (kept :
         stopped = (let P : ℕ → Type 0 = λ p. Stopped s t first kept cs h before after reached follows x p want.Begin in
             let Q : Want → Type 0 = λ v. Stopped s t first kept cs h before after reached follows x (parent_of t b) v in
             let less = h.tree.rooted b some low in
-            subst P (sym (ap (λ o. cond (is_some o) (parent_of t (refused t c)) c.asker) some_victim ∙ ap (parent_of t) z.is))
+            subst P (sym (ap (λ o. cond (is_some o) (parent_of t (refused_node t c)) c.asker) some_victim ∙ ap (parent_of t) z.is))
             (subst Q begins.0
             (stopped_there s t first kept cs h before after reached follows (parent_of t b) (s.want (before b)) (λ m. nat_eq m b) (refused_stopped b (λ m. nat_eq m b) victim_last) x (parent_of t b) (omega (arith, low)) (ancestor_self t (parent_of t b))
             (λ m e over. let le : m ≤ parent_of t b = ancestor_le t h.tree.rooted m (parent_of t b) (omega (arith, low)) over in omega (arith, eqb-true m b e)) (same_strand b (λ m. nat_eq m b) victim_last ∙ z.strand))));

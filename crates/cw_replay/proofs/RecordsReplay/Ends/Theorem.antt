@@ -24,7 +24,7 @@ use Rattle.cw_serial.specs.declared.ends.SerialEnd.{SerialEnd}
 use Rattle.cw_serial.specs.declared.ends.SerialEnd.TheVariants as last
 use Rattle.cw_tree.proofs.Members.{map_in}
 use Rattle.cw_tree.proofs.Lists.{In}
-use Rattle.cw_serial.specs.StrandTree.{ended, at}
+use Rattle.cw_serial.specs.StrandTree.{state_at_end, at}
 use Rattle.cw_serial.specs.Machine.{Machine, has_ended, machine_shows, stands_at, end_of_strand, end_of_named, steps_down}
 use Rattle.cw_serial.proofs.Numbers.{get_some}
 use Rattle.cw_record.specs.declared.record_end.RecordEnd.{RecordEnd}
@@ -83,7 +83,7 @@ module _ {A : Type 0} (s : Strands A) (m : Machine A) (names : List Name) (name 
     by false e = stuck_named k place (steps_down names name) e
 
   -- where its strands have ended, it has finished
-  shows_finished : (a : A) → ended s m.strands ≡ Some a → machine_shows s m names name place ≡ last.Finished m.memory m.outputs
+  shows_finished : (a : A) → state_at_end s m.strands ≡ Some a → machine_shows s m names name place ≡ last.Finished m.memory m.outputs
   shows_finished a e = ap (λ o. shown_by (is_some o) (unwrap_or (end_of_named s m name (steps_down names name)) (last.Stuck place))) e
 
   -- and else it shows where the strand of the last name stands
@@ -127,10 +127,10 @@ module _ {A : Type 0} (s : Strands A) (deep : IsDeep s) (first : List ℤ) (budg
       by (item i) u = map_in item i (Order t 0 done_run.laid) (stands t 0 done_run.laid i u.there (of_proper s t 0 done_run i u.proper)
           (around (node_of i) u.there (λ a f. let le : a ≤ node_of i = ancestor_le t h.tree.rooted a (node_of i) u.there f in let hi = u.there in (u.kept a (root_ancestor t h.tree.rooted a (omega arith)) f).0)))
 
-    pub strands_ended : (a : A) × (ended s done.strands ≡ Some a)
+    pub strands_ended : (a : A) × (state_at_end s done.strands ≡ Some a)
     strands_ended = (
       _,
-      ap (ended s) (last_strands s deep t 0 done_run first kept cs h)
+      ap (state_at_end s) (last_strands s deep t 0 done_run first kept cs h)
           ∙ all_over (deeds s t 0 done_run deep) deep (whole done_run.account.stop t) (Items s t 0 done_run) s.start (whole_once s t done_run.account) (whole_fits s t done_run.account) (order_plays s t 0 done_run deep)
           (whole_over s t done_run.account (all_ended 0 h.tree.some (and_from (is_strand t 0) (is_live t 0) h.tree.root refl))) all_seen,
     )

@@ -20,7 +20,7 @@ use Rattle.cw_tree.specs.Nodes.{parent_of, stamp_of, end_of, is_block, is_pendin
 use Rattle.cw_tree.specs.Walks.{above, is_ancestor, is_above, xparent}
 use Rattle.cw_tree.specs.Series.{is_before, strand_of}
 use Rattle.cw_tree.specs.Accesses.{is_live, live_accesses, by_key, cell_value, written, value_in, written_kind}
-use Rattle.cw_tree.specs.Cancels.{IsCancel, before_block, put_back as tree_puts_back, wrote_in}
+use Rattle.cw_tree.specs.Cancels.{IsCancel, before_block, put_back, wrote_in}
 use Rattle.cw_tree.specs.Histories.{IsHistory}
 use Rattle.cw_tree.proofs.Ahead.{Ahead, Apart, ahead_both, first_in}
 use Rattle.cw_tree.proofs.Lists.{In, all_from, any_from, any_in}
@@ -32,7 +32,7 @@ use Rattle.cw_tree.proofs.Walks.Ancestors.{above_ancestor, ancestor_above, ances
 use Rattle.cw_tree.proofs.Walks.Kin.{AreOrdered, before_of, branch, in_above}
 use Rattle.cw_tree.proofs.Walks.Strands.{strand_of_other}
 use Rattle.cw_job.specs.Memory.{value_at}
-use Rattle.cw_serial.specs.Wants.{Since, given_up, memory_after, put_back, since_after, was_written}
+use Rattle.cw_serial.specs.Wants.{Since, given_up, memory_after, put_back_since, since_after, was_written}
 use Rattle.cw_serial.proofs.Numbers.{get_some}
 use Rattle.cw_record.specs.declared.items.OrderItem.{OrderItem}
 use Rattle.cw_record.specs.declared.items.OrderItem.TheVariants.{Begins, Does, Ends}
@@ -169,7 +169,7 @@ module _ {A : Type 0} (s : Strands A) (t : List Node) (p : ℕ) (r : Run s t p) 
     level : b ≡ Some block
     is_block : is_block t block ≡ true
     parent : parent_of t n ≡ block
-    list : back ≡ tree_puts_back t first (live_accesses t) block (stamp_of t n)
+    list : back ≡ put_back t first (live_accesses t) block (stamp_of t n)
 
   given : (b : Option ℕ) (n : ℕ) (x : Node) (back : List Back) → slice_get t n ≡ Some x → x.kind ≡ Cancel back → Entry t p r.laid b n → LevelStays t p r.laid b → IsGiven b n back
   given b n x back is kind e l =
@@ -190,7 +190,7 @@ module _ {A : Type 0} (s : Strands A) (t : List Node) (p : ℕ) (r : Run s t p) 
         level = sym e.up ∙ around;
         is_block = block;
         parent = refl;
-        list = c.list ∙ ap (λ y. tree_puts_back t first (live_accesses t) y x.stamp) (sym parent) ∙ ap (tree_puts_back t first (live_accesses t) m) (sym stamp);
+        list = c.list ∙ ap (λ y. put_back t first (live_accesses t) y x.stamp) (sym parent) ∙ ap (put_back t first (live_accesses t) m) (sym stamp);
       }
 
   pub cancels_stand : CancelsStand t p r.laid
@@ -483,7 +483,7 @@ module _ {A : Type 0} (s : Strands A) (t : List Node) (p : ℕ) (r : Run s t p) 
         ∙ ap (λ k. map (f held) (filter (was_written l.top) (below k))) l.long
         ∙ ap (map (f held)) (filter_agree (was_written l.top) (λ c. wrote_in t m (stamp_of t n) (live_accesses t c)) same_cells (below (length first)))
         ∙ map_same (f held) (f left) cells (λ c i. ap (λ (v : ℤ). (let b : Back = record { cell = c; value = v } in b)) (same_value c i))
-        ∙ sym (g.list ∙ ap (λ y. tree_puts_back t first (live_accesses t) y (stamp_of t n)) same_block)
+        ∙ sym (g.list ∙ ap (λ y. put_back t first (live_accesses t) y (stamp_of t n)) same_block)
 
   -- ## Level by level
 

@@ -5,7 +5,7 @@ use Rattle.cw_strand.specs.declared.want.Want.TheVariants as want
 use Rattle.cw_strand.specs.Strands.{IsDeep}
 use Rattle.cw_tree.specs.declared.picks.Turn.{Turn}
 use Rattle.cw_serial.specs.Spots.{turn_to}
-use Rattle.cw_serial.specs.StrandTree.{ended, goes_on}
+use Rattle.cw_serial.specs.StrandTree.{state_at_end, goes_on}
 use Rattle.cw_serial.proofs.Deep.{meet_both, ended_stands, goes_over, goes_forking}
 use Rattle.cw_replay.proofs.RecordsReplay.Work.Work.{Work, nil, act, split, Has, Before, has_more, Doing, fold, Over, Fits, Way, runs, splits, HasWay, BeforeWay, OnceWay}
 use Rattle.cw_replay.proofs.RecordsReplay.Work.Ways.{threads, final, OverWay, FitsWay, Step, here, opens, left, right, closes}
@@ -22,21 +22,21 @@ module _ {I A : Type 0} (u : Doing I A) where
 
   module _ (deep : IsDeep u.law) where
     -- where nothing is left to do, strands that come to their end have ended
-    pub over_work : (w : Work I) (k : ℕ) (a : A) → Over u a w → ((i : I) → Has i w → ⊥) → ended u.law (goes_on u.law k a) ≡ Some (fold u a w)
-    over_work nil k a o n = (ap (ended u.law) (goes_over u.law k a o) ∙ ended_stands u.law k a o)
+    pub over_work : (w : Work I) (k : ℕ) (a : A) → Over u a w → ((i : I) → Has i w → ⊥) → state_at_end u.law (goes_on u.law k a) ≡ Some (fold u a w)
+    over_work nil k a o n = (ap (state_at_end u.law) (goes_over u.law k a o) ∙ ended_stands u.law k a o)
     over_work (act i w) k a o n = absurd (n i (inl refl))
     over_work (split l r w) k a o n =
         let x = over_work l 0 (u.law.left a) o.1 (λ i h. n i (inl h)) in
         let y = over_work r 0 (u.law.right a) o.2 (λ i h. n i (inr (inl h))) in
-        ap (ended u.law) (goes_forking u.law deep k a o.0 ∙ meet_both u.law (goes_on u.law) (suc k) (goes_on u.law 0 (u.law.left a)) (goes_on u.law 0 (u.law.right a)) _ _ x y)
+        ap (state_at_end u.law) (goes_forking u.law deep k a o.0 ∙ meet_both u.law (goes_on u.law) (suc k) (goes_on u.law 0 (u.law.left a)) (goes_on u.law 0 (u.law.right a)) _ _ x y)
         ∙ over_work w (suc k) _ o.3 (λ i h. n i (inr (inr h)))
 
-    pub over_way : (c : Way I A) → OverWay u c → ((i : I) → HasWay i c → ⊥) → ended u.law (threads u c) ≡ Some (final u c)
+    pub over_way : (c : Way I A) → OverWay u c → ((i : I) → HasWay i c → ⊥) → state_at_end u.law (threads u c) ≡ Some (final u c)
     over_way (runs k a w) o n = over_work w k a o n
     over_way (splits k l r w) o n =
         let x = over_way l o.0 (λ i h. n i (inl h)) in
         let y = over_way r o.1 (λ i h. n i (inr (inl h))) in
-        ap (ended u.law) (meet_both u.law (goes_on u.law) k (threads u l) (threads u r) _ _ x y)
+        ap (state_at_end u.law) (meet_both u.law (goes_on u.law) k (threads u l) (threads u r) _ _ x y)
         ∙ over_work w k _ o.2 (λ i h. n i (inr (inr h)))
 
     in_left : (q : List Turn) (k : ℕ) (l r : Way I A) (w : Work I) (j : I) → Next (q ++ turn_to k false ∷ []) l j → Next q (splits k l r w) j

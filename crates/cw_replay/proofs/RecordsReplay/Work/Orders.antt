@@ -2,7 +2,7 @@
 use Rattle.std.proofs.Common.{◌≡◌, List, [], ◌∷◌, refl, ◌∙◌, Some, inl, inr, subst}
 use Rattle.std.specs.Prelude.{◌⊎◌}
 use Rattle.cw_strand.specs.Strands.{IsDeep}
-use Rattle.cw_serial.specs.StrandTree.{ended}
+use Rattle.cw_serial.specs.StrandTree.{state_at_end}
 use Rattle.cw_replay.proofs.RecordsReplay.Work.Work.{Work, Has, Before, Once, Doing, Fits, Over, Way, runs, HasWay, BeforeWay, OnceWay, before_has_way}
 use Rattle.cw_replay.proofs.RecordsReplay.Work.Ways.{threads, final, OverWay, FitsWay, final_step, fits_step, over_step}
 use Rattle.cw_replay.proofs.RecordsReplay.Work.Next.{Next, next_way, over_way, has_step, stays, before_step, gone, once_step}
@@ -78,7 +78,7 @@ module _ {I A : Type 0} (u : Doing I A) where
 
     -- where all acts were done and the strands come to their end, the strands have ended
     pub all_over : (js : List I) (a : A) (o : Once whole) (f : Fits u [] 0 a whole) (p : Plays (runs 0 a whole) js) → Over u a whole
-        → ((i : I) → Has i whole → SeenAfter (λ i. ⊥) js i) → ended u.law (threads u (way_after (runs 0 a whole) js p)) ≡ Some (final u (way_after (runs 0 a whole) js p))
+        → ((i : I) → Has i whole → SeenAfter (λ i. ⊥) js i) → state_at_end u.law (threads u (way_after (runs 0 a whole) js p)) ≡ Some (final u (way_after (runs 0 a whole) js p))
     all_over js a o f p e h =
         let c = way_after (runs 0 a whole) js p in
         let l = left_after js (λ i. ⊥) (runs 0 a whole) (left_first a o f) p in

@@ -6,7 +6,7 @@ use Rattle.cw_strand.specs.declared.want.Want.TheVariants as want
 use Rattle.cw_strand.specs.Strands.{Strands, IsDeep, is_over, wants_fork}
 use Rattle.cw_tree.specs.declared.picks.Turn.{Turn}
 use Rattle.cw_serial.specs.Spots.{turn_to}
-use Rattle.cw_serial.specs.StrandTree.{StrandTree, stands, waits, ended, meet, goes_on, at, put}
+use Rattle.cw_serial.specs.StrandTree.{StrandTree, stands, waits, state_at_end, meet, goes_on, at, put}
 use Rattle.cw_serial.proofs.Sides.{side_left, side_right}
 use Rattle.cw_serial.proofs.Deep.{meet_left, meet_right, meet_both, goes_nowhere, goes_forking}
 use Rattle.cw_replay.proofs.RecordsReplay.Work.Work.{Work, act, split, More, Doing, fold, Over, Fits, Way, runs, splits, HasWay}
@@ -17,7 +17,7 @@ module _ {A : Type 0} (s : Strands A) where
   Stops w = (is_over w ≡ false) × (wants_fork w ≡ false)
 
   -- where a strand of a tree stands at a want, that tree has not ended
-  pub not_ended : (x : StrandTree A) (p : List Turn) (b : A) → at s x p ≡ Some b → is_over (s.want b) ≡ false → ended s x ≡ None
+  pub not_ended : (x : StrandTree A) (p : List Turn) (b : A) → at s x p ≡ Some b → is_over (s.want b) ≡ false → state_at_end s x ≡ None
   not_ended (stands k a) [] b e f = let P : A → Type 0 = λ y. is_over (s.want y) ≡ false in let same : a ≡ b = cc e in ap (λ c. cond c (Some a) None) (subst P (sym same) f)
   not_ended (stands k a) (t ∷ p) b e f = absurd (cc e)
   not_ended (waits k l r) p b e f = refl
@@ -48,7 +48,7 @@ module _ {I A : Type 0} (u : Doing I A) where
         → Step (splits (suc k) (runs 0 (u.law.left a) l) (runs 0 (u.law.right a) r) w) p i b c → Step (runs k a (split l r w)) p i b c
     left : {k : ℕ} {b : A} {i : I} {l m r : Way I A} {w : Work I} {p : List Turn} → Step l p i b m → Step (splits k l r w) (turn_to k false ∷ p) i b (splits k m r w)
     right : {k : ℕ} {b : A} {i : I} {l m r : Way I A} {w : Work I} {p : List Turn} → Step r p i b m → Step (splits k l r w) (turn_to k true ∷ p) i b (splits k l m w)
-    closes : {k : ℕ} {b : A} {i : I} {l r c : Way I A} {w : Work I} {p : List Turn} → ended u.law (threads l) ≡ Some (final l) → ended u.law (threads r) ≡ Some (final r)
+    closes : {k : ℕ} {b : A} {i : I} {l r c : Way I A} {w : Work I} {p : List Turn} → state_at_end u.law (threads l) ≡ Some (final l) → state_at_end u.law (threads r) ≡ Some (final r)
         → ((i : I) → HasWay i l ⊎ HasWay i r → ⊥)
         → Step (runs k (u.law.joined (final r) (final l)) w) p i b c → Step (splits k l r w) p i b c
 

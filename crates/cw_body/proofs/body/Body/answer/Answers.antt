@@ -1,6 +1,6 @@
 use Rattle.std.proofs.Common.{◌≡◌, ◌∙◌, ap, sym, subst}
 use Rattle.cw_code.specs.declared.program.Program.{Program}
-use Rattle.cw_job.specs.Jobs.{bare}
+use Rattle.cw_job.specs.Jobs.{bare_job}
 use Rattle.cw_job.specs.Room.Strands.{IsOf}
 use Rattle.cw_body.specs.declared.stage.Stage.TheVariants.{Goes}
 use Rattle.cw_body.specs.Bodies.{AnswersAct, InBlocks, elements_of, want_of}
@@ -17,5 +17,5 @@ invariant_of-self-2 c =
     record {
       kept = c.self.invariant.kept;
       stands = answered_so x.program.value x.stage.value c.of-2.result.value x.level x.standing c.answer.new.self going c.of-2.ensures (subst P same c.in_ok-answer.ensures.stands) c.args.given x.begins
-          (subst Q (sym c.self.view_is) c.requires.answers) (c.in_ok-answer.ensures.answer (bare x.program.value) (sym same)) c.self.invariant.stands;
+          (subst Q (sym c.self.view_is) c.requires.answers) (c.in_ok-answer.ensures.answer (bare_job x.program.value) (sym same)) c.self.invariant.stands;
     }

@@ -1,7 +1,7 @@
 use Rattle.std.proofs.Common.{◌≡◌, ◌∙◌, List, ◌∷◌, refl, ap, sym, subst}
 use Rattle.cw_code.specs.declared.program.Program.{Program}
 use Rattle.cw_strand.specs.declared.want.Want.TheVariants as want
-use Rattle.cw_job.specs.Jobs.{bare}
+use Rattle.cw_job.specs.Jobs.{bare_job}
 use Rattle.cw_job.specs.Room.Strands.{IsOf, state_of}
 use Rattle.cw_job.specs.Room.Saves.{IsSavedOf}
 use Rattle.cw_body.specs.declared.begin.Begin.{Begin}
@@ -29,5 +29,5 @@ invariant_of-self-2 c =
     record {
       kept = subst K (sym pushed) (begin_kept x.program.value x.stage.value x.level x.standing b x.begins going w saved refl c.of.ensures c.self.invariant.stands, c.self.invariant.kept);
       stands = subst S (sym pushed) (begun_so x.program.value x.stage.value c.of-3.result.value x.level x.standing c.answer.new.self going c.of-3.ensures (subst P same c.in_ok-answer.ensures.stands)
-          b x.begins w refl c.of.ensures (c.in_ok-answer.ensures.answer (bare x.program.value) (sym same)) c.self.invariant.stands);
+          b x.begins w refl c.of.ensures (c.in_ok-answer.ensures.answer (bare_job x.program.value) (sym same)) c.self.invariant.stands);
     }

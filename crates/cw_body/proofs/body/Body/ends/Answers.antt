@@ -1,7 +1,7 @@
 use Rattle.std.proofs.Common.{◌≡◌, ◌∙◌, ◌<◌, List, length, ap, sym, subst}
 use Rattle.cw_code.specs.declared.program.Program.{Program}
 use Rattle.cw_strand.specs.declared.want.Want.TheVariants as want
-use Rattle.cw_job.specs.Jobs.{bare}
+use Rattle.cw_job.specs.Jobs.{bare_job}
 use Rattle.cw_job.specs.Room.Strands.{IsOf}
 use Rattle.cw_body.specs.declared.begin.Begin.{Begin}
 use Rattle.cw_body.specs.declared.stage.Stage.TheVariants.{Goes}
@@ -26,5 +26,5 @@ invariant_of-self-2 c =
     record {
       kept = (subst K e c.self.invariant.kept).1;
       stands = ended_so x.program.value x.stage.value c.of-2.result.value x.level x.standing c.answer.new.self going c.of-2.ensures (subst P same c.in_ok-answer.ensures.stands)
-          b rest (subst Q (sym c.self.view_is) c.requires.end) (c.in_ok-answer.ensures.answer (bare x.program.value) (sym same)) (subst S e c.self.invariant.stands);
+          b rest (subst Q (sym c.self.view_is) c.requires.end) (c.in_ok-answer.ensures.answer (bare_job x.program.value) (sym same)) (subst S e c.self.invariant.stands);
     }

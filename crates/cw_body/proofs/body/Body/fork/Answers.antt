@@ -1,7 +1,7 @@
 use Rattle.std.proofs.Common.{rules, ◌≡◌, ◌∙◌, ◌+◌, ℕ, map, ap, sym, subst}
 use Rattle.cw_code.specs.declared.program.Program.{Program}
 use Rattle.cw_strand.specs.declared.want.Want.TheVariants as want
-use Rattle.cw_job.specs.Jobs.{bare}
+use Rattle.cw_job.specs.Jobs.{bare_job}
 use Rattle.cw_job.specs.Room.Strands.{IsOf, state_of, strands_of_job}
 use Rattle.cw_body.specs.declared.body.Body.TheInside.{Inside}
 use Rattle.cw_body.specs.declared.stage.Stage.TheVariants.{Goes}
@@ -25,7 +25,7 @@ invariant_of-self-2 c =
     record {
       kept = c.self.invariant.kept;
       stands = subst S (sym (up c)) (right_so x.program.value x.stage.value c.of-2.result.value x.level x.standing c.fork.new.self on c.of-2.ensures (subst P same c.in_ok-standing.ensures.right_stands)
-          x.begins (subst Q (sym c.self.view_is) c.requires.fork) (c.in_ok-standing.ensures.right (bare x.program.value) (sym same)) c.self.invariant.stands);
+          x.begins (subst Q (sym c.self.view_is) c.requires.fork) (c.in_ok-standing.ensures.right (bare_job x.program.value) (sym same)) c.self.invariant.stands);
     }
 
 pub returns-clause-right : goal.returns-clause-right

@@ -1,11 +1,11 @@
 use Rattle.std.proofs.Common.{◌≡◌, ◌∙◌, ◌-◌, ℕ, map, ap, sym, subst, true}
 use Rattle.cw_code.specs.declared.program.Program.{Program}
 use Rattle.cw_strand.specs.Strands.{is_over}
-use Rattle.cw_job.specs.Jobs.{bare}
+use Rattle.cw_job.specs.Jobs.{bare_job}
 use Rattle.cw_job.specs.Room.Strands.{IsOf, state_of, strands_of_job}
 use Rattle.cw_body.specs.declared.body.Body.TheInside.{Inside}
 use Rattle.cw_body.specs.declared.stage.Stage.TheVariants.{Goes}
-use Rattle.cw_body.specs.Bodies.{HasNoBlock, InBlocks, joined, one_fork_less, strands_of_program, want_of}
+use Rattle.cw_body.specs.Bodies.{HasNoBlock, InBlocks, joined_body, one_fork_less, strands_of_program, want_of}
 use Rattle.cw_body.specs.InMemory.{StandsSo, in_blocks, shown}
 use Rattle.cw_body.proofs.InMemory.Calls.{joined_so}
 use Rattle.cw_body.proofs.InMemory.Shown.{seen_as, shown_less}
@@ -22,7 +22,7 @@ invariant_of-self-2 c =
     let P : Program → Type 0 = λ p. IsOf p c.join.new.self in
     let Q : InBlocks → Type 0 = λ v. is_over (want_of v) ≡ true in
     let s = strands_of_program x.program.value in
-    let next = c.in_ok-join.ensures.joined (bare x.program.value) (sym same) in
+    let next = c.in_ok-join.ensures.joined (bare_job x.program.value) (sym same) in
     let at : state_of c.join.new.self ≡ s.joined (state_of x.standing) (state_of c.left.inside.standing) = cc in
     let S : ℕ → Type 0 = λ k. StandsSo x.program.value c.of-2.result.value k c.join.new.self x.begins in
     record {
@@ -36,7 +36,7 @@ returns-clause-ok c = λ job same.
     let x = c.self.inside in
     let z : Inside = record { standing = c.join.new.self; level = c.saturating_sub-self-inside.result; begins = x.begins; program = x.program; stage = c.of-2.result } in
     let on : x.stage.value ≡ Goes = ap (λ (v : InBlocks). v.stage) c.self.view_is ∙ c.requires.goes in
-    let P : InBlocks → Type 0 = λ v. in_blocks z ≡ joined (strands_of_job job) v c.args.left in
+    let P : InBlocks → Type 0 = λ v. in_blocks z ≡ joined_body (strands_of_job job) v c.args.left in
     let left : state_of c.left.inside.standing ≡ c.args.left.state = ap (λ (v : InBlocks). v.state) c.left.view_is in
     let next = c.in_ok-join.ensures.joined job same in
     let at : state_of c.join.new.self ≡ (strands_of_job job).joined (state_of x.standing) c.args.left.state = cc in

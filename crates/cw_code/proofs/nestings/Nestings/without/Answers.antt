@@ -1,5 +1,5 @@
 use Rattle.std.proofs.Common.{◌≡◌, ◌<◌, ◌++◌, ◌∷◌, true, length, replicate, IfOk, refl, sym, ap, ◌∙◌, subst, arith}
-use Rattle.cw_code.specs.Rules.{is_part, without}
+use Rattle.cw_code.specs.Rules.{is_part, without_part}
 use Rattle.cw_code.specs.Nested.{parts_at, IsGrown}
 use Rattle.cw_code.proofs.Parts.{other_part, one_of_two, one_before, without_behind, without_first}
 use Rattle.cw_code.proofs.Rows.{grown_not}
@@ -20,8 +20,8 @@ returns-then-is_part-clause-parts c =
     let all : parts_at c.args.self.now c.args.number ≡ replicate c.loop-found.passed q ++ c.in-Some.found.part ∷ parts_at c.loop-found.self c.in-Some.found.outer =
     ap (λ ns. parts_at ns c.args.number) (sym c.loop-found.invariant.same) ∙ c.loop-found.invariant.parts q kind ∙ ap (λ ps. replicate c.loop-found.passed q ++ ps) r.0
     in
-    let left : without c.args.part (parts_at c.args.self.now c.args.number) ≡ replicate c.loop-found.passed q ++ parts_at c.loop-found.self c.in-Some.found.outer =
-    ap (without c.args.part) all ∙ without_behind c.args.part q c.loop-found.passed _ kind ∙ ap (λ ps. replicate c.loop-found.passed q ++ ps) (without_first c.args.part c.in-Some.found.part _ found)
+    let left : without_part c.args.part (parts_at c.args.self.now c.args.number) ≡ replicate c.loop-found.passed q ++ parts_at c.loop-found.self c.in-Some.found.outer =
+    ap (without_part c.args.part) all ∙ without_behind c.args.part q c.loop-found.passed _ kind ∙ ap (λ ps. replicate c.loop-found.passed q ++ ps) (without_first c.args.part c.in-Some.found.part _ found)
     in
     subst (λ ps. IfOk c.again.result (λ n. parts_at c.again.new.self n ≡ ps)) (sym left) c.again.ensures.parts
 
@@ -57,8 +57,8 @@ returns-clause-parts c =
     let q = o.0 in
     let all : parts_at c.loop-found.self c.args.number ≡ replicate c.loop-found.passed q ++ parts_at c.loop-found.self c.loop-found.around = c.loop-found.invariant.parts q o.1 in
     let nothing = c.in_default.ensures.none refl in
-    let kept : without c.args.part (parts_at c.loop-found.self c.args.number) ≡ parts_at c.loop-found.self c.args.number =
-    ap (without c.args.part) all ∙ without_behind c.args.part q c.loop-found.passed _ o.1 ∙ ap (λ ps. replicate c.loop-found.passed q ++ without c.args.part ps) nothing
+    let kept : without_part c.args.part (parts_at c.loop-found.self c.args.number) ≡ parts_at c.loop-found.self c.args.number =
+    ap (without_part c.args.part) all ∙ without_behind c.args.part q c.loop-found.passed _ o.1 ∙ ap (λ ps. replicate c.loop-found.passed q ++ without_part c.args.part ps) nothing
     ∙ sym (all ∙ ap (λ ps. replicate c.loop-found.passed q ++ ps) nothing)
     in
-    sym kept ∙ ap (λ ns. without c.args.part (parts_at ns c.args.number)) c.loop-found.invariant.same
+    sym kept ∙ ap (λ ns. without_part c.args.part (parts_at ns c.args.number)) c.loop-found.invariant.same

@@ -1,7 +1,7 @@
 use Rattle.cw_text.specs.Syntax.{term_of}
 use Rattle.cw_text.proofs.Blocks.{inner_is_block}
 use Rattle.std.proofs.lemmas.Result.{on_ok_weaker}
-use Rattle.cw_compile.proofs.NamingRules.NameSteps.{item_first}
+use Rattle.cw_text.proofs.Printing.{first_left}
 use Rattle.cw_compile.proofs.Emitting.{choice_emitted, loop_emitted, atomic_emitted, spawn_emitted, emit_next}
 use Rattle.cw_compile.proofs.emitter.Emitter.+walk.Goals as goal
 
@@ -27,4 +27,4 @@ statement-returns-in_ok-emit-in-Spawn-3 t c =
 
 pub block-loop-statement-preserved : goal.block-loop-statement-preserved
 block-loop-statement-preserved t c =
-    rw c.in_ok-statement.ensures (emit_next _ _ _ _ _ _ (rw (item_first c.args.body.now c.loop-statement.statement-index c.statement-item.result c.loop-statement-test.true c.statement-item.is) at c.loop-statement.invariant))
+    rw c.in_ok-statement.ensures (emit_next _ _ _ _ _ _ (rw (first_left c.args.body.now c.loop-statement.statement-index c.statement-item.result c.loop-statement-test.true c.statement-item.is) at c.loop-statement.invariant))

@@ -3,7 +3,7 @@ use Rattle.cw_tree.specs.declared.node.Kind.TheVariants.{Block}
 use Rattle.cw_tree.specs.Nodes.{fresh_node}
 use Rattle.cw_tree.specs.Series.{place}
 use Rattle.cw_trace.specs.Columns.{gap, begun_word}
-use Rattle.cw_core.specs.Kept.{IsRow, changed, with_tail, with_place, plain_tail, leaf_row}
+use Rattle.cw_core.specs.Kept.{IsRow, with_row_changed, with_tail, with_place, plain_tail, leaf_row}
 use Rattle.cw_core.specs.InMemory.{state_of}
 use Rattle.cw_core.specs.State.{gap_of}
 use Rattle.cw_core.specs.Events.{fits, after_event}
@@ -71,11 +71,11 @@ invariant_of-self-2 c =
     let Q : ℕ → Type 0 = λ p. IsRow c.args.self.now p c.row-attempt.result in
     let row = seen a c.args.self.now (λ k. IsRow k (place a.tree s) c.row-attempt.result) c.self.view_is (subst Q f.at c.row-attempt.ensures.row) in
     let n = c.row-attempt.result.tail.aborted + 1 in
-    let rows : c.put_leaf.new.table.items ≡ changed (with_place (length a.tree)) s (changed (with_tail plain_tail) (place a.tree s) a.rows.items ++ leaf_row s n ∷ []) =
+    let rows : c.put_leaf.new.table.items ≡ with_row_changed (with_place (length a.tree)) s (with_row_changed (with_tail plain_tail) (place a.tree s) a.rows.items ++ leaf_row s n ∷ []) =
     c.put_leaf.ensures
-    ∙ ap (λ q. changed (with_place c.in_ok-node.node) s (changed (with_tail plain_tail) q c.reserve.new.self.items ++ leaf_row s n ∷ [])) f.at
-    ∙ ap (λ rs. changed (with_place c.in_ok-node.node) s (changed (with_tail plain_tail) (place a.tree s) rs ++ leaf_row s n ∷ [])) c.reserve.ensures.items
-    ∙ ap (λ q. changed (with_place q) s (changed (with_tail plain_tail) (place a.tree s) a.rows.items ++ leaf_row s n ∷ [])) c.in_ok-node.ensures.number in
+    ∙ ap (λ q. with_row_changed (with_place c.in_ok-node.node) s (with_row_changed (with_tail plain_tail) q c.reserve.new.self.items ++ leaf_row s n ∷ [])) f.at
+    ∙ ap (λ rs. with_row_changed (with_place c.in_ok-node.node) s (with_row_changed (with_tail plain_tail) (place a.tree s) rs ++ leaf_row s n ∷ [])) c.reserve.ensures.items
+    ∙ ap (λ q. with_row_changed (with_place q) s (with_row_changed (with_tail plain_tail) (place a.tree s) a.rows.items ++ leaf_row s n ∷ [])) c.in_ok-node.ensures.number in
     begin_kept a c.self.invariant s fit (record a { tree = c.add.new.self; rows = c.put_leaf.new.table; gaps = c.begin_word.new.gaps; clock = a.clock + 1 }) grown refl words (λ e. absurd (cc (c.in_ok-node.ensures.full e))) c.row-attempt.result row rows
 
 pub returns-clause-ok : goal.returns-clause-ok

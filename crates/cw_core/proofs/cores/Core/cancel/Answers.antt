@@ -6,7 +6,7 @@ use Rattle.cw_tree.specs.Series.{place}
 use Rattle.cw_tree.specs.Accesses.{is_live}
 use Rattle.cw_tree.proofs.NodeKinds.{pending_block}
 use Rattle.cw_open.specs.Steps.{puts_back}
-use Rattle.cw_core.specs.Kept.{changed, with_tail, with_place, plain_tail, leaf_row}
+use Rattle.cw_core.specs.Kept.{with_row_changed, with_tail, with_place, plain_tail, leaf_row}
 use Rattle.cw_core.specs.State.{CoreState}
 use Rattle.cw_core.specs.Events.{after_event, next}
 use Rattle.cw_core.specs.InMemory.{state_of}
@@ -94,11 +94,11 @@ invariant_of-self-2 c =
     let grown : c.add.new.self ≡ a.tree ++ fresh_node (place a.tree s) (Cancel back) (a.clock + 1) ∷ [] =
     c.in_ok-add.ensures.ok ∙ ap (λ bs. a.tree ++ fresh_node c.row-block.result.now.place (Cancel bs) (a.clock + 1) ∷ []) listed
     ∙ ap (λ n. a.tree ++ fresh_node n (Cancel back) (a.clock + 1) ∷ []) f.1.at in
-    let rows : c.put_leaf.new.table.items ≡ changed (with_place (place a.tree s)) s (changed (with_tail plain_tail) (place a.tree s)
+    let rows : c.put_leaf.new.table.items ≡ with_row_changed (with_place (place a.tree s)) s (with_row_changed (with_tail plain_tail) (place a.tree s)
     a.rows.items ++ leaf_row s 0 ∷ []) =
     c.put_leaf.ensures
-    ∙ ap (λ q. changed (with_place q) s (changed (with_tail plain_tail) q c.reserve.new.self.items ++ leaf_row s 0 ∷ [])) f.1.at
-    ∙ ap (λ rs. changed (with_place (place a.tree s)) s (changed (with_tail plain_tail) (place a.tree s) rs ++ leaf_row s 0 ∷ [])) c.reserve.ensures.items in
+    ∙ ap (λ q. with_row_changed (with_place q) s (with_row_changed (with_tail plain_tail) q c.reserve.new.self.items ++ leaf_row s 0 ∷ [])) f.1.at
+    ∙ ap (λ rs. with_row_changed (with_place (place a.tree s)) s (with_row_changed (with_tail plain_tail) (place a.tree s) rs ++ leaf_row s 0 ∷ [])) c.reserve.ensures.items in
     cancel_kept a c.self.invariant s f.0 (record a { tree = c.add.new.self; rows = c.put_leaf.new.table; clock = a.clock + 1 }) grown refl
     (λ e. absurd (cc (c.in_ok-add.ensures.full e))) rows
 

@@ -6,7 +6,7 @@ use Rattle.cw_trace.specs.Columns.{gap, closed_word}
 use Rattle.cw_core.specs.Events.{fits, after_event}
 use Rattle.cw_core.specs.InMemory.{state_of}
 use Rattle.cw_core.specs.State.{gap_of}
-use Rattle.cw_core.specs.Kept.{changed, with_tail, with_place, plain_tail}
+use Rattle.cw_core.specs.Kept.{with_row_changed, with_tail, with_place, plain_tail}
 use Rattle.cw_core.specs.declared.event.Event.TheVariants as event
 use Rattle.cw_core.proofs.InMemory.Out.{seen, running_there, finds}
 use Rattle.cw_core.proofs.Kept.Commits.{may_commit, block_here, parent_low, commit_state, commit_kept}
@@ -70,7 +70,7 @@ invariant_of-self c =
     let begun : c.node.result.now.stamp ≡ stamp_of a.tree (place a.tree c.args.strand) = sym (ap (number_in (λ x. x.stamp)) c.node.ensures) ∙ ap (stamp_of a.tree) f.at in
     let words : c.end_word.new.gaps.words.items ≡ closed_word a.gaps.words.items (gap_of (state_of a) c.args.strand) (stamp_of a.tree (place a.tree c.args.strand)) =
     c.end_word.ensures ∙ ap (λ g. closed_word a.gaps.words.items g c.node.result.now.stamp) (c.gap-gap.ensures ∙ ap (gap a.tier.columns) f.column) ∙ ap (closed_word a.gaps.words.items (gap_of (state_of a) c.args.strand)) begun in
-    commit_kept a c.self.invariant c.args.strand fit (record a { tree = c.close.new.self; clock = a.clock + 1; gaps = c.end_word.new.gaps; rows = c.close_row.new.table }) tree refl words (c.close_row.ensures ∙ ap (λ q. changed (with_place q) c.args.strand (changed (with_tail plain_tail) q a.rows.items)) up)
+    commit_kept a c.self.invariant c.args.strand fit (record a { tree = c.close.new.self; clock = a.clock + 1; gaps = c.end_word.new.gaps; rows = c.close_row.new.table }) tree refl words (c.close_row.ensures ∙ ap (λ q. with_row_changed (with_place q) c.args.strand (with_row_changed (with_tail plain_tail) q a.rows.items)) up)
 
 pub returns : goal.returns
 returns c =

@@ -4,7 +4,7 @@ use Rattle.std.proofs.lemmas.Option.{slice_get_read, get_or_from_slice_get}
 use Rattle.cw_tree.specs.Series.{place}
 use Rattle.cw_tree.specs.NextNodes.{fork_nodes}
 use Rattle.cw_trace.specs.Columns.{gap, used, forked}
-use Rattle.cw_core.specs.Kept.{changed, with_tail, with_wait, plain_tail, fork_rows}
+use Rattle.cw_core.specs.Kept.{with_row_changed, with_tail, with_wait, plain_tail, fork_rows}
 use Rattle.cw_core.specs.InMemory.{state_of}
 use Rattle.cw_core.specs.State.{column_of, gap_of}
 use Rattle.cw_core.specs.Events.{fits, may_fork, after_event}
@@ -64,13 +64,13 @@ invariant_of-self-in-Ok c =
     sym (get_or_from_slice_get a.gaps.words.items c.gap-gap.result c.index-word.result.now 0 at) ∙ ap (slice_index a.gaps.words.items) (c.gap-gap.ensures ∙ ap (gap a.tier.columns) f.column) in
     let columns : c.fork-2.new.self.columns ≡ forked (slice_index a.gaps.words.items (gap_of (state_of a) s)) (column_of (state_of a) s) a.tier.columns =
     c.in-Ok.ensures.forked ∙ ap (λ w. forked w c.row-own.result.made.column a.tier.columns) word ∙ ap (λ i. forked (slice_index a.gaps.words.items (gap_of (state_of a) s)) i a.tier.columns) f.column in
-    let rows : c.put_fork.new.table.items ≡ changed with_wait s (changed (with_tail plain_tail) (place a.tree s) a.rows.items ++ fork_rows s (used a.tier.columns) (used a.tier.columns + 1) (length a.tree) true) =
+    let rows : c.put_fork.new.table.items ≡ with_row_changed with_wait s (with_row_changed (with_tail plain_tail) (place a.tree s) a.rows.items ++ fork_rows s (used a.tier.columns) (used a.tier.columns + 1) (length a.tree) true) =
     c.put_fork.ensures
-    ∙ ap (λ q. changed with_wait s (changed (with_tail plain_tail) q c.reserve.new.self.items ++ fork_rows s c.in-Ok.columns.0 c.in-Ok.columns.1 c.in_ok-fork.fork true)) f.at
-    ∙ ap (λ rs. changed with_wait s (changed (with_tail plain_tail) (place a.tree s) rs ++ fork_rows s c.in-Ok.columns.0 c.in-Ok.columns.1 c.in_ok-fork.fork true)) c.reserve.ensures.items
-    ∙ ap (λ n. changed with_wait s (changed (with_tail plain_tail) (place a.tree s) a.rows.items ++ fork_rows s c.in-Ok.columns.0 c.in-Ok.columns.1 n true)) c.in_ok-fork.ensures.number
-    ∙ ap (λ l. changed with_wait s (changed (with_tail plain_tail) (place a.tree s) a.rows.items ++ fork_rows s l c.in-Ok.columns.1 (length a.tree) true)) c.in-Ok.ensures.strands.0
-    ∙ ap (λ r. changed with_wait s (changed (with_tail plain_tail) (place a.tree s) a.rows.items ++ fork_rows s (used a.tier.columns) r (length a.tree) true)) c.in-Ok.ensures.strands.1 in
+    ∙ ap (λ q. with_row_changed with_wait s (with_row_changed (with_tail plain_tail) q c.reserve.new.self.items ++ fork_rows s c.in-Ok.columns.0 c.in-Ok.columns.1 c.in_ok-fork.fork true)) f.at
+    ∙ ap (λ rs. with_row_changed with_wait s (with_row_changed (with_tail plain_tail) (place a.tree s) rs ++ fork_rows s c.in-Ok.columns.0 c.in-Ok.columns.1 c.in_ok-fork.fork true)) c.reserve.ensures.items
+    ∙ ap (λ n. with_row_changed with_wait s (with_row_changed (with_tail plain_tail) (place a.tree s) a.rows.items ++ fork_rows s c.in-Ok.columns.0 c.in-Ok.columns.1 n true)) c.in_ok-fork.ensures.number
+    ∙ ap (λ l. with_row_changed with_wait s (with_row_changed (with_tail plain_tail) (place a.tree s) a.rows.items ++ fork_rows s l c.in-Ok.columns.1 (length a.tree) true)) c.in-Ok.ensures.strands.0
+    ∙ ap (λ r. with_row_changed with_wait s (with_row_changed (with_tail plain_tail) (place a.tree s) a.rows.items ++ fork_rows s (used a.tier.columns) r (length a.tree) true)) c.in-Ok.ensures.strands.1 in
     let forks : c.push_reserved.new.self.items ≡ a.forks.items ++ length a.tree ∷ [] =
     c.push_reserved.ensures.items ∙ ap (λ fs. fs ++ c.in_ok-fork.fork ∷ []) c.reserve-2.ensures.items ∙ ap (λ n. a.forks.items ++ n ∷ []) c.in_ok-fork.ensures.number in
     fork_kept a c.self.invariant s fit true e (record a { tree = c.fork.new.self; rows = c.put_fork.new.table; clock = a.clock + 1; tier = c.fork-2.new.self; forks = c.push_reserved.new.self }) grown refl columns c.in_ok-fork.ensures.few rows forks
@@ -115,12 +115,12 @@ invariant_of-self-in-Err c =
     let grown : c.fork.new.self ≡ a.tree ++ fork_nodes (length a.tree) (place a.tree s) (a.clock + 1) = c.in_ok-fork.ensures.ok ∙ ap (λ q. a.tree ++ fork_nodes (length a.tree) q (a.clock + 1)) f.at in
     let e = may_not a.tier.columns c.in-Err.ensures.inline in
     let columns : c.fork-2.new.self.columns ≡ a.tier.columns = ap (λ t. t.columns) c.in-Err.ensures.err in
-    let rows : c.put_fork-in-Err.new.table.items ≡ changed with_wait s (changed (with_tail plain_tail) (place a.tree s) a.rows.items ++ fork_rows s (column_of (state_of a) s) (column_of (state_of a) s) (length a.tree) false) =
+    let rows : c.put_fork-in-Err.new.table.items ≡ with_row_changed with_wait s (with_row_changed (with_tail plain_tail) (place a.tree s) a.rows.items ++ fork_rows s (column_of (state_of a) s) (column_of (state_of a) s) (length a.tree) false) =
     c.put_fork-in-Err.ensures
-    ∙ ap (λ q. changed with_wait s (changed (with_tail plain_tail) q c.reserve.new.self.items ++ fork_rows s c.row-own.result.made.column c.row-own.result.made.column c.in_ok-fork.fork false)) f.at
-    ∙ ap (λ rs. changed with_wait s (changed (with_tail plain_tail) (place a.tree s) rs ++ fork_rows s c.row-own.result.made.column c.row-own.result.made.column c.in_ok-fork.fork false)) c.reserve.ensures.items
-    ∙ ap (λ n. changed with_wait s (changed (with_tail plain_tail) (place a.tree s) a.rows.items ++ fork_rows s c.row-own.result.made.column c.row-own.result.made.column n false)) c.in_ok-fork.ensures.number
-    ∙ ap (λ i. changed with_wait s (changed (with_tail plain_tail) (place a.tree s) a.rows.items ++ fork_rows s i i (length a.tree) false)) f.column in
+    ∙ ap (λ q. with_row_changed with_wait s (with_row_changed (with_tail plain_tail) q c.reserve.new.self.items ++ fork_rows s c.row-own.result.made.column c.row-own.result.made.column c.in_ok-fork.fork false)) f.at
+    ∙ ap (λ rs. with_row_changed with_wait s (with_row_changed (with_tail plain_tail) (place a.tree s) rs ++ fork_rows s c.row-own.result.made.column c.row-own.result.made.column c.in_ok-fork.fork false)) c.reserve.ensures.items
+    ∙ ap (λ n. with_row_changed with_wait s (with_row_changed (with_tail plain_tail) (place a.tree s) a.rows.items ++ fork_rows s c.row-own.result.made.column c.row-own.result.made.column n false)) c.in_ok-fork.ensures.number
+    ∙ ap (λ i. with_row_changed with_wait s (with_row_changed (with_tail plain_tail) (place a.tree s) a.rows.items ++ fork_rows s i i (length a.tree) false)) f.column in
     fork_kept a c.self.invariant s fit false e (record a { tree = c.fork.new.self; rows = c.put_fork-in-Err.new.table; clock = a.clock + 1; tier = c.fork-2.new.self; forks = c.reserve-2.new.self }) grown refl columns c.in_ok-fork.ensures.few rows c.reserve-2.ensures.items
 
 pub returns-in-Err-clause-ok : goal.returns-in-Err-clause-ok

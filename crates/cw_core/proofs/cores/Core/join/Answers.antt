@@ -1,6 +1,6 @@
 use Rattle.std.proofs.Common.{ap, ◌∙◌, arith, length}
 use Rattle.cw_core.specs.InMemory.{state_of}
-use Rattle.cw_core.specs.Kept.{changed, with_joined, with_back}
+use Rattle.cw_core.specs.Kept.{with_row_changed, with_joined, with_back}
 use Rattle.cw_core.proofs.InMemory.Join.{join_there, may_here, row_here, halves_there, strand_low, merge_low, merge_left, merge_named, join_state, join_kept}
 use Rattle.cw_core.proofs.cores.Core.join.Goals as goal
 
@@ -57,7 +57,7 @@ invariant_of-self-2 c =
     let row = row_here c.self.inside c.self.invariant c.args.self.now c.self.view_is c.args.fork c.requires c.args.fork c.row-row.result c.row-row.ensures.row in
     let left = row_here c.self.inside c.self.invariant c.args.self.now c.self.view_is c.args.fork c.requires c.row-row.result.made.left c.row-left.result c.row-left.ensures.row in
     let right = row_here c.self.inside c.self.invariant c.args.self.now c.self.view_is c.args.fork c.requires c.row-row.result.made.right c.row-right.result c.row-right.ensures.row in
-    let rows = c.join_rows.ensures ∙ ap (λ v. changed with_joined c.args.fork (changed (with_back v) c.row-row.result.made.strand c.self.inside.rows.items)) c.least-victim.ensures in
+    let rows = c.join_rows.ensures ∙ ap (λ v. with_row_changed with_joined c.args.fork (with_row_changed (with_back v) c.row-row.result.made.strand c.self.inside.rows.items)) c.least-victim.ensures in
     join_kept c.self.inside c.self.invariant c.args.self.now c.self.view_is c.args.fork c.requires (record c.self.inside { tier = c.merge_where.new.tier; joined = c.push.new.self; rows = c.join_rows.new.table }) c.row-row.result row c.in_ok-push.ensures.ok c.merge_where.ensures c.row-left.result c.row-right.result left right rows
 
 pub returns-clause-ok : goal.returns-clause-ok

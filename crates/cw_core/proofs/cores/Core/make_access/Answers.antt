@@ -9,7 +9,7 @@ use Rattle.cw_tree.specs.AccessStacks.{access_kind}
 use Rattle.cw_stack.specs.Cells as stack
 use Rattle.cw_open.specs.Machine.{live_value}
 use Rattle.cw_core.specs.InMemory.{state_of}
-use Rattle.cw_core.specs.Kept.{changed, with_tail, with_place, plain_tail, leaf_row, cell_changed, with_entry}
+use Rattle.cw_core.specs.Kept.{with_row_changed, with_tail, with_place, plain_tail, leaf_row, cell_changed, with_entry}
 use Rattle.cw_core.specs.State.{column_of}
 use Rattle.cw_core.specs.Events.{after_event}
 use Rattle.cw_core.specs.declared.event.Event.TheVariants as event
@@ -96,8 +96,8 @@ invariant_of-self-2 c =
     ∙ ap (λ v. a.tree ++ fresh_node (place a.tree s) (access_kind c.args.cell c.args.write v) (a.clock + 1) ∷ []) value in
     let entries : c.put_entry-value.new.cells.items ≡ cell_changed (with_entry (column_of (state_of b) s) (a.clock + 1) c.args.write) c.args.cell b.cells.items =
     c.put_entry-value.ensures.entries ∙ ap (λ i. cell_changed (with_entry i (a.clock + 1) c.args.write) c.args.cell b.cells.items) f.column in
-    let rows : c.put_leaf.new.table.items ≡ changed (with_place (place a.tree s)) s (changed (with_tail plain_tail) (place a.tree s) b.rows.items ++ leaf_row s 0 ∷ []) =
-    c.put_leaf.ensures ∙ ap (λ q. changed (with_place q) s (changed (with_tail plain_tail) q b.rows.items ++ leaf_row s 0 ∷ [])) f.at in
+    let rows : c.put_leaf.new.table.items ≡ with_row_changed (with_place (place a.tree s)) s (with_row_changed (with_tail plain_tail) (place a.tree s) b.rows.items ++ leaf_row s 0 ∷ []) =
+    c.put_leaf.ensures ∙ ap (λ q. with_row_changed (with_place q) s (with_row_changed (with_tail plain_tail) q b.rows.items ++ leaf_row s 0 ∷ [])) f.at in
     access_kept b h.kept s c.args.cell c.args.write h.fit h.off h.cell h.at (record b { tree = c.add.new.self; rows = c.put_leaf.new.table; clock = a.clock + 1; cells = c.put_entry-value.new.cells }) grown refl entries (λ e. absurd (cc (c.in_ok-add.ensures.full e))) rows
 
 pub returns-clause-ok : goal.returns-clause-ok
@@ -118,8 +118,8 @@ returns-clause-ok c =
     ∙ ap (λ v. a.tree ++ fresh_node (place a.tree s) (access_kind c.args.cell c.args.write v) (a.clock + 1) ∷ []) value in
     let entries : c.put_entry-value.new.cells.items ≡ cell_changed (with_entry (column_of (state_of b) s) (a.clock + 1) c.args.write) c.args.cell b.cells.items =
     c.put_entry-value.ensures.entries ∙ ap (λ i. cell_changed (with_entry i (a.clock + 1) c.args.write) c.args.cell b.cells.items) f.column in
-    let rows : c.put_leaf.new.table.items ≡ changed (with_place (place a.tree s)) s (changed (with_tail plain_tail) (place a.tree s) b.rows.items ++ leaf_row s 0 ∷ []) =
-    c.put_leaf.ensures ∙ ap (λ q. changed (with_place q) s (changed (with_tail plain_tail) q b.rows.items ++ leaf_row s 0 ∷ [])) f.at in
+    let rows : c.put_leaf.new.table.items ≡ with_row_changed (with_place (place a.tree s)) s (with_row_changed (with_tail plain_tail) (place a.tree s) b.rows.items ++ leaf_row s 0 ∷ []) =
+    c.put_leaf.ensures ∙ ap (λ q. with_row_changed (with_place q) s (with_row_changed (with_tail plain_tail) q b.rows.items ++ leaf_row s 0 ∷ [])) f.at in
     access_state b h.kept s c.args.cell c.args.write h.fit h.off h.cell h.at (record b { tree = c.add.new.self; rows = c.put_leaf.new.table; clock = a.clock + 1; cells = c.put_entry-value.new.cells }) grown refl entries
     ∙ ap (λ k. after_event k (event.Access s c.args.cell c.args.write)) h.view
 

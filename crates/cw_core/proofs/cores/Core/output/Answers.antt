@@ -3,7 +3,7 @@ use Rattle.std.proofs.lemmas.Int.{to_z-of_z}
 use Rattle.cw_tree.specs.declared.node.Kind.TheVariants.{Out}
 use Rattle.cw_tree.specs.Nodes.{fresh_node}
 use Rattle.cw_tree.specs.Series.{place}
-use Rattle.cw_core.specs.Kept.{changed, with_tail, with_place, plain_tail, leaf_row}
+use Rattle.cw_core.specs.Kept.{with_row_changed, with_tail, with_place, plain_tail, leaf_row}
 use Rattle.cw_core.specs.Events.{fits, after_event}
 use Rattle.cw_core.specs.declared.event.Event.TheVariants as event
 use Rattle.cw_core.proofs.InMemory.Out.{seen, now_of, runs_free, running_there, finds, out_state, out_kept}
@@ -41,10 +41,10 @@ invariant_of-self-2 c =
     let f = finds a c.self.invariant c.args.self.now c.self.view_is s (runs_free c.args.self.now s (now_of c.args.self.now (event.Out s v) c.requires)) c.row-place.result c.row-place.ensures.row in
     let fit = seen a c.args.self.now (λ k. fits k (event.Out s v) ≡ true) c.self.view_is c.requires in
     let grown : c.add.new.self ≡ a.tree ++ fresh_node (place a.tree s) (Out v) (a.clock + 1) ∷ [] = c.in_ok-add.ensures.ok ∙ ap (λ v. a.tree ++ fresh_node c.row-place.result.now.place (Out v) (a.clock + 1) ∷ []) (to_z-of_z w64 v signed) ∙ ap (λ q. a.tree ++ fresh_node q (Out v) (a.clock + 1) ∷ []) f.at in
-    let rows : c.put_leaf.new.table.items ≡ changed (with_place (place a.tree s)) s (changed (with_tail plain_tail) (place a.tree s) a.rows.items ++ leaf_row s 0 ∷ []) =
+    let rows : c.put_leaf.new.table.items ≡ with_row_changed (with_place (place a.tree s)) s (with_row_changed (with_tail plain_tail) (place a.tree s) a.rows.items ++ leaf_row s 0 ∷ []) =
     c.put_leaf.ensures
-    ∙ ap (λ q. changed (with_place q) s (changed (with_tail plain_tail) q c.reserve.new.self.items ++ leaf_row s 0 ∷ [])) f.at
-    ∙ ap (λ rs. changed (with_place (place a.tree s)) s (changed (with_tail plain_tail) (place a.tree s) rs ++ leaf_row s 0 ∷ [])) c.reserve.ensures.items in
+    ∙ ap (λ q. with_row_changed (with_place q) s (with_row_changed (with_tail plain_tail) q c.reserve.new.self.items ++ leaf_row s 0 ∷ [])) f.at
+    ∙ ap (λ rs. with_row_changed (with_place (place a.tree s)) s (with_row_changed (with_tail plain_tail) (place a.tree s) rs ++ leaf_row s 0 ∷ [])) c.reserve.ensures.items in
     out_kept a c.self.invariant s v fit (record a { tree = c.add.new.self; rows = c.put_leaf.new.table; clock = a.clock + 1 }) grown refl (λ e. absurd (cc (c.in_ok-add.ensures.full e))) rows
 
 pub returns-clause-ok : goal.returns-clause-ok

@@ -5,7 +5,7 @@ use Rattle.cw_tree.specs.declared.node.Kind.TheVariants.{Tried}
 use Rattle.cw_tree.specs.Nodes.{is_pending, fresh_node}
 use Rattle.cw_tree.specs.Series.{place}
 use Rattle.cw_core.specs.State.{CoreState}
-use Rattle.cw_core.specs.Kept.{IsRow, changed, with_tail, with_victim, tried_tail, leaf_row, tried_again}
+use Rattle.cw_core.specs.Kept.{IsRow, with_row_changed, with_tail, with_victim, tried_tail, leaf_row, tried_again}
 use Rattle.cw_core.specs.Events.{after_event, reply_to}
 use Rattle.cw_core.specs.declared.event.Event.TheVariants as event
 use Rattle.cw_core.proofs.InMemory.Out.{seen, running_there}
@@ -84,11 +84,11 @@ invariant_of-self-2 g c =
     let at = slice_get_read a.cells.items (vec_len a.cells) c.args.cell c.index.result.now (search rules) (omega (arith, cell_there a c.args.self.now c.self.view_is s c.args.cell None c.requires.fits)) c.index.ensures in
     let more = c.push_reserved.ensures.items ∙ ap (λ cs. cs ++ c.conflict_with.result ∷ []) c.reserve.ensures.items ∙ ap (λ d. a.conflicts.items ++ d ∷ []) (c.conflict_with.ensures ∙ conflict_is a c.self.invariant s c.args.cell c.args.barrier c.row-place.result c.row.result c.victim-victim.result h x told c.in_ok-asker.asker c.in_ok-asker.ensures.number c.index.result.now at c.in_ok-kept.kept.items c.in_ok-kept.ensures) in
     let v = c.victim-victim.result in
-    let rows : c.put_tried.new.table.items ≡ changed (with_victim v) s (changed (with_tail (tried_tail c.args.cell c.row.result.tail)) (place a.tree s) a.rows.items ++ leaf_row s 0 ∷ []) =
+    let rows : c.put_tried.new.table.items ≡ with_row_changed (with_victim v) s (with_row_changed (with_tail (tried_tail c.args.cell c.row.result.tail)) (place a.tree s) a.rows.items ++ leaf_row s 0 ∷ []) =
     c.put_tried.ensures
-    ∙ ap (λ q. changed (with_victim v) s (changed (with_tail c.tried_tail-tail.result) q c.reserve-2.new.self.items ++ leaf_row s 0 ∷ [])) h.at
-    ∙ ap (λ rs. changed (with_victim v) s (changed (with_tail c.tried_tail-tail.result) (place a.tree s) rs ++ leaf_row s 0 ∷ [])) c.reserve-2.ensures.items
-    ∙ ap (λ y. changed (with_victim v) s (changed (with_tail y) (place a.tree s) a.rows.items ++ leaf_row s 0 ∷ [])) c.tried_tail-tail.ensures in
+    ∙ ap (λ q. with_row_changed (with_victim v) s (with_row_changed (with_tail c.tried_tail-tail.result) q c.reserve-2.new.self.items ++ leaf_row s 0 ∷ [])) h.at
+    ∙ ap (λ rs. with_row_changed (with_victim v) s (with_row_changed (with_tail c.tried_tail-tail.result) (place a.tree s) rs ++ leaf_row s 0 ∷ [])) c.reserve-2.ensures.items
+    ∙ ap (λ y. with_row_changed (with_victim v) s (with_row_changed (with_tail y) (place a.tree s) a.rows.items ++ leaf_row s 0 ∷ [])) c.tried_tail-tail.ensures in
     refused_kept a c.self.invariant s c.args.cell c.args.barrier c.row-place.result c.row.result c.victim-victim.result h (record a { tree = c.add.new.self; rows = c.put_tried.new.table; conflicts = c.push_reserved.new.self; spent = c.or_later-self-inside.result }) grown more (λ e. absurd (cc (c.in_ok-asker.ensures.full e))) rows (spends_so a c.self.invariant s c.args.cell c.args.barrier c.row-place.result c.row.result c.victim-victim.result h x told c.or_later-self-inside.result c.or_later-self-inside.ensures)
 
 pub returns-clause-ok : goal.returns-clause-ok

@@ -7,7 +7,7 @@ use Rattle.cw_core.specs.Events.{fits, after_event}
 use Rattle.cw_core.specs.InMemory.{state_of}
 use Rattle.cw_core.specs.State.{gap_of}
 use Rattle.cw_core.specs.Undone.{MayUndo, AreUndone}
-use Rattle.cw_core.specs.Kept.{IsRow, changed, with_tail, with_rolled, aborted_tail}
+use Rattle.cw_core.specs.Kept.{IsRow, with_row_changed, with_tail, with_rolled, aborted_tail}
 use Rattle.cw_core.specs.declared.event.Event.TheVariants as event
 use Rattle.cw_core.proofs.InMemory.Out.{seen, finds}
 use Rattle.cw_core.proofs.Kept.Rolled.{may_undo, is_pending_block}
@@ -102,8 +102,8 @@ invariant_of-self c =
     let may = may_roll (state_of a) c.args.strand fit in
     let attempt = row.made.attempt (is_pending_block (state_of a) a.rows.items a.forks.items a.cells.items a.spent c.self.invariant c.args.strand may.running may.ready may.within) in
     let rows = c.roll_row.ensures
-    ∙ ap (λ q. changed (with_rolled q c.row-own.result.now.place) c.args.strand (changed (with_tail (aborted_tail c.row-attempt.result.made.attempt)) q a.rows.items)) up
-    ∙ ap (λ b. changed (with_rolled (parent_of a.tree (place a.tree c.args.strand)) b) c.args.strand (changed (with_tail (aborted_tail c.row-attempt.result.made.attempt)) (parent_of a.tree (place a.tree c.args.strand)) a.rows.items)) f.at in
+    ∙ ap (λ q. with_row_changed (with_rolled q c.row-own.result.now.place) c.args.strand (with_row_changed (with_tail (aborted_tail c.row-attempt.result.made.attempt)) q a.rows.items)) up
+    ∙ ap (λ b. with_row_changed (with_rolled (parent_of a.tree (place a.tree c.args.strand)) b) c.args.strand (with_row_changed (with_tail (aborted_tail c.row-attempt.result.made.attempt)) (parent_of a.tree (place a.tree c.args.strand)) a.rows.items)) f.at in
     roll_kept a c.self.invariant c.args.strand fit o tree refl words undone c.row-attempt.result.made.attempt attempt rows
 
 pub returns : goal.returns

@@ -1,5 +1,5 @@
 use Rattle.std.proofs.Common.{◌∙◌, ◌++◌, refl, sym, ap}
-use Rattle.cw_job.specs.Jobs.{bare}
+use Rattle.cw_job.specs.Jobs.{bare_job}
 use Rattle.cw_serial.proofs.Picked.{picked, not_inside, not_done, none_stands, unknown_wants}
 use Rattle.cw_serial.proofs.machine.Machine.pick.Goals as goal
 
@@ -24,6 +24,6 @@ returns-clause-unknown c = λ job m is past. absurd (let e = sym c.in-Some.is �
 pub returns-clause-names : goal.returns-clause-names
 returns-clause-names c =
     let done = rw c.in-Some-2.is at c.in_ok-given.ensures in
-    let answered = c.in_ok-answer.ensures.answers (bare c.args.program.now) refl in
+    let answered = c.in_ok-answer.ensures.answers (bare_job c.args.program.now) refl in
     let (rest, more) = c.in_ok-settle.ensures.names in
     (rest, more ∙ ap (λ ns. ns ++ rest) (ap (λ v. v.items) (answered.back.names ∙ answered.gone.names) ∙ ap (λ t. t.names.items) done.strands))

@@ -2,7 +2,7 @@ use Rattle.std.proofs.Common.{◌∙◌, ◌++◌, ◌∷◌, [], refl, sym, ap,
 use Rattle.cw_serial.specs.declared.table.Place.TheVariants.{Waits}
 use Rattle.std.proofs.lemmas.Option.{same_Some}
 use Rattle.cw_strand.specs.declared.want.Want.TheVariants.{Fork}
-use Rattle.cw_job.specs.Jobs.{bare}
+use Rattle.cw_job.specs.Jobs.{bare_job}
 use Rattle.cw_job.specs.Room.Strands.{state_of, strands_of_job}
 use Rattle.cw_serial.specs.TableInMemory.{forks}
 use Rattle.cw_serial.proofs.SameWants.{same_want_at}
@@ -16,7 +16,7 @@ fork-requires-clause-stands c = stood_is_of c.args.program.now c.args.self.now c
 pub fork-requires-clause-fork : goal.fork-requires-clause-fork
 fork-requires-clause-fork c =
     let waits = rw c.in-Stands.is at c.put.ensures in
-    same_Some ((strands_of_job (bare c.args.program.now)).want (state_of c.in-Stands.strand)) Fork (sym (want_here (strands_of_job (bare c.args.program.now)) state_of c.args.self.now.rows.items c.args.number waits.row c.in-Stands.strand waits.here waits.was) ∙ c.requires.wants)
+    same_Some ((strands_of_job (bare_job c.args.program.now)).want (state_of c.in-Stands.strand)) Fork (sym (want_here (strands_of_job (bare_job c.args.program.now)) state_of c.args.self.now.rows.items c.args.number waits.row c.in-Stands.strand waits.here waits.was) ∙ c.requires.wants)
 
 pub returns-clause-stands : goal.returns-clause-stands
 returns-clause-stands c =
@@ -38,7 +38,7 @@ returns-clause-moves c = λ job same.
       one = c.put.new.self;
       two = c.note.new.self;
       three = c.start.new.self;
-      wants = same_Some ((strands_of_job job).want (state_of c.in-Stands.strand)) Fork (sym (want_here (strands_of_job job) state_of c.args.self.now.rows.items c.args.number waits.row c.in-Stands.strand waits.here waits.was) ∙ (same_want_at job (bare c.args.program.now) c.args.self.now.rows.items c.args.number ∙ c.requires.wants));
+      wants = same_Some ((strands_of_job job).want (state_of c.in-Stands.strand)) Fork (sym (want_here (strands_of_job job) state_of c.args.self.now.rows.items c.args.number waits.row c.in-Stands.strand waits.here waits.was) ∙ (same_want_at job (bare_job c.args.program.now) c.args.self.now.rows.items c.args.number ∙ c.requires.wants));
       left_number = c.in_ok-sides.ensures;
       right_number = (let next = sides.next in omega (arith, c.in_ok-sides.ensures));
       waits = waits;

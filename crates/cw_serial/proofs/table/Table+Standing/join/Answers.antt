@@ -1,7 +1,7 @@
 use Rattle.std.proofs.Common.{◌≡◌, ◌∙◌, Some, None, ap, subst, refl, sym, arith, rules, length, vec_len, true, false}
 use Rattle.std.specs.List.{slice_get}
 use Rattle.std.proofs.lemmas.Option.{slice_get_within}
-use Rattle.cw_job.specs.Jobs.{bare}
+use Rattle.cw_job.specs.Jobs.{bare_job}
 use Rattle.cw_job.specs.Room.Strands.{state_of, strands_of_job}
 use Rattle.cw_serial.specs.declared.table.Sides.{Sides}
 use Rattle.cw_serial.specs.declared.table.Place.TheVariants.{Stands, Gone}
@@ -16,20 +16,20 @@ use Rattle.cw_serial.proofs.table.Table+Standing.join.Goals as goal
 
 pub put-requires : goal.put-requires
 put-requires c =
-    let job = bare c.args.program.now in
+    let job = bare_job c.args.program.now in
     let within = over_within (strands_of_job job) state_of c.args.self.now.rows.items c.in-Some-awaited.sides.left (sym (c.is_over.ensures job) ∙ c.if-not-is_over.false) in
     let len : vec_len c.args.self.now.rows ≡ length c.args.self.now.rows.items = search rules in
     omega arith
 
 pub unreachable-requires : goal.unreachable-requires
 unreachable-requires c =
-    let job = bare c.args.program.now in
+    let job = bare_job c.args.program.now in
     let (st, stood) = over_stood (strands_of_job job) state_of c.args.self.now c.put.new.self c.in-Some-awaited.sides.left Gone c.put.result (sym (c.is_over.ensures job) ∙ c.if-not-is_over.false) c.put.ensures in
     c.in_default-put.not-Stands st stood
 
 pub put-requires-2 : goal.put-requires-2
 put-requires-2 c =
-    let job = bare c.args.program.now in
+    let job = bare_job c.args.program.now in
     let sides = c.in-Some-awaited.sides in
     let right_over : over_at (strands_of_job job) state_of c.args.self.now.rows.items sides.right ≡ true = sym (c.is_over-else-not-is_over.ensures job) ∙ c.if-not-is_over-2.false in
     let within = over_within (strands_of_job job) state_of c.put.new.self.rows.items sides.right (over_still (strands_of_job job) state_of c.args.self.now c.put.new.self sides c.put.result right_over c.put.ensures) in
@@ -38,7 +38,7 @@ put-requires-2 c =
 
 pub unreachable-requires-in_default-put-2 : goal.unreachable-requires-in_default-put-2
 unreachable-requires-in_default-put-2 c =
-    let job = bare c.args.program.now in
+    let job = bare_job c.args.program.now in
     let sides = c.in-Some-awaited.sides in
     let right_over : over_at (strands_of_job job) state_of c.args.self.now.rows.items sides.right ≡ true = sym (c.is_over-else-not-is_over.ensures job) ∙ c.if-not-is_over-2.false in
     let (st, stood) = over_stood (strands_of_job job) state_of c.put.new.self c.put-2.new.self sides.right Gone c.put-2.result (over_still (strands_of_job job) state_of c.args.self.now c.put.new.self sides c.put.result right_over c.put.ensures) c.put-2.ensures in
@@ -71,7 +71,7 @@ returns-clause-moves c = λ job same.
     let left_gone = rw c.in-Stands.is at c.put.ensures in
     let right_gone = rw c.in-Stands-put.is at c.put-2.ensures in
     let named : slice_get c.args.self.now.names.items c.args.number ≡ Some c.in-Some.name = sym c.name.ensures ∙ c.in-Some.is in
-    joins c.in-Some.name named (same_over_at job (bare c.args.program.now) c.args.self.now.rows.items c.args.number ∙ c.requires.over)
+    joins c.in-Some.name named (same_over_at job (bare_job c.args.program.now) c.args.self.now.rows.items c.args.number ∙ c.requires.over)
     (join_made (strands_of_job job) state_of c.args.self.now c.put.new.self c.put-2.new.self c.put-3.new.self c.in-Some.name.parent sides c.in-Stands.left c.in-Stands-put.right c.join.new.self c.put-3.result awaited left_over right_over left_gone right_gone c.put-3.ensures (c.in_ok-join.ensures.joined job same))
     c.in_ok-push.ensures.items
 
@@ -98,7 +98,7 @@ returns-in_default-awaited-clause-moves c = λ job same.
 
 pub returns-then-not-is_over-clause-moves : goal.returns-then-not-is_over-clause-moves
 returns-then-not-is_over-clause-moves c = λ job same.
-    let bare_job = bare c.args.program.now in
+    let bare_job = bare_job c.args.program.now in
     let awaits = c.in-Some-awaited.sides in
     let named : slice_get c.args.self.now.names.items c.args.number ≡ Some c.in-Some.name = sym c.name.ensures ∙ c.in-Some.is in
     let these : awaited_at c.args.self.now.rows.items c.in-Some.name.parent ≡ Some awaits = sym c.awaited.ensures ∙ c.in-Some-awaited.is in

@@ -1,7 +1,7 @@
 use Rattle.std.proofs.Common.{◌≡◌, ◌∙◌, ◌<◌, ◌++◌, ◌∷◌, [], refl, sym, ap, subst, rules}
 use Rattle.cw_job.specs.Room.Strands.{state_of, strands_of_job}
 use Rattle.cw_job.proofs.Room.Lawful.{deep_of}
-use Rattle.cw_job.specs.Jobs.{bare}
+use Rattle.cw_job.specs.Jobs.{bare_job}
 use Rattle.cw_serial.proofs.Weights.{load, load_falls}
 use Rattle.cw_serial.proofs.AllMoved.{settling_first, settling_more, settling_all}
 use Rattle.cw_serial.proofs.table.Table+Standing.settle.Goals as goal
@@ -21,7 +21,7 @@ loop-number-preserved c = (
 
 pub loop-number-smaller : goal.loop-number-smaller
 loop-number-smaller c =
-    let job = bare c.args.program.now in
+    let job = bare_job c.args.program.now in
     subst (λ xs. load (strands_of_job job) state_of c.advance.new.self.rows.items c.advance.new.todo.items < load (strands_of_job job) state_of c.loop-number.self.rows.items xs) (sym c.in-Some.ensures.items)
     (load_falls (strands_of_job job) state_of (deep_of job) c.loop-number.self c.advance.new.self c.in-Some.number c.pop.new.self.items c.advance.new.todo.items (c.in_ok-advance.ensures.moves job refl))
 
@@ -34,4 +34,4 @@ pub returns-clause-stands : goal.returns-clause-stands
 returns-clause-stands c = c.loop-number.invariant.1
 
 pub returns-clause-names : goal.returns-clause-names
-returns-clause-names c = (c.loop-number.invariant.0 (bare c.args.program.now) refl).names
+returns-clause-names c = (c.loop-number.invariant.0 (bare_job c.args.program.now) refl).names

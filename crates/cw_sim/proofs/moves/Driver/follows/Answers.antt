@@ -32,8 +32,8 @@ returns-then-not-is_split c =
     c.if-strand-fork.true (sym c.is_split.ensures ∙ c.if-not-is_split.true) c.goes_to_right.new.self (comes z))
     c.goes_to_right.ensures
 
-pub meets-requires : goal.meets-requires
-meets-requires c = (
+pub joins_or_idles-requires : goal.joins_or_idles-requires
+joins_or_idles-requires c = (
   c.requires.0,
   may_meet c.args.self.now c.args.w c.args.strand c.args.dead c.requires.0 c.requires.1 c.if-strand-eq0.false c.parent-fork.result (c.parent-fork.ensures.parent ∙ ap (λ t. parent_of t c.args.strand) c.tree.ensures),
 )
@@ -42,11 +42,11 @@ pub returns : goal.returns
 returns c =
     let s = c.args.self.now in
     let up = c.parent-fork.ensures.parent ∙ ap (λ t. parent_of t c.args.strand) c.tree.ensures in
-    on_ok_weaker c.meets.result
+    on_ok_weaker c.joins_or_idles.result
     (λ comes z may. elim c.else-strand-fork.branch [
       | else-strand-fork-via-then-strand-fork+else-not-is_split w ↦
-          follows_split s c.args.w c.args.strand c.args.dead z may c.if-strand-eq0.false c.parent-fork.result up (sym w.is_split.ensures ∙ w.if-not-is_split.false) c.meets.new.self (comes z)
+          follows_split s c.args.w c.args.strand c.args.dead z may c.if-strand-eq0.false c.parent-fork.result up (sym w.is_split.ensures ∙ w.if-not-is_split.false) c.joins_or_idles.new.self (comes z)
       | else-strand-fork-via-else-strand-fork w ↦
-          follows_right s c.args.w c.args.strand c.args.dead z may c.if-strand-eq0.false c.parent-fork.result up w.if-strand-fork.false c.meets.new.self (comes z)
+          follows_right s c.args.w c.args.strand c.args.dead z may c.if-strand-eq0.false c.parent-fork.result up w.if-strand-fork.false c.joins_or_idles.new.self (comes z)
     ])
-    c.meets.ensures
+    c.joins_or_idles.ensures

@@ -2,9 +2,9 @@ use Rattle.std.proofs.Common.{arith, ap, sym, ◌∙◌, ◌≡◌, false, nat_e
 use Rattle.std.specs.Prelude.{◌&&◌}
 use Rattle.std.proofs.lemmas.Bool.{eq-eqb, ne_eqb, and_from, and_left, and_right}
 use Rattle.cw_tree.specs.Nodes.{is_block, stamp_of}
-use Rattle.cw_steps.proofs.Leaving.Told.{first_below, none_below_more}
 use Rattle.cw_steps.proofs.closing.halts.block_with_stamp.Goals as goal
 use Rattle.cw_tree.proofs.Walks.There.{stamp_is}
+use Rattle.cw_tree.proofs.FirstBelow.{first_below, none_below_more}
 use Rattle.cw_steps.proofs.closing.halts.block_with_stamp.Goals.{else-is_block-via-then-is_block+else-node-stamp, else-is_block-via-else-is_block}
 
 pub returns-then-node-stamp-clause-result : goal.returns-then-node-stamp-clause-result

@@ -1,5 +1,5 @@
 use Rattle.std.proofs.Common.{rules, sym, ap, ◌∙◌, ◌≡◌, [], ◌∷◌, ◌++◌, append_assoc, append-nil}
-use Rattle.cw_course.specs.Closings.{last_conflict, last_of}
+use Rattle.cw_course.specs.Closings.{last_conflict, last_of_conflicts}
 use Rattle.cw_steps.specs.Tracks.{track_of}
 use Rattle.cw_steps.proofs.Leaving.Bases.{none_more}
 use Rattle.cw_steps.proofs.Leaving.Told.{last_found, last_none, victim_or_none}
@@ -11,7 +11,7 @@ returns-then-log-column c =
     let own = (track_of c.args.track.now).own in
     let log = c.in-Some.log.now in
     let e : c.loop-log.log-iterator ≡ log ∷ c.next.new.self = search rules in
-    c.last_of-then-log-column.ensures ∙ ap (λ cs. victim_or_none (last_of cs)) c.as_slice-then-log-column.ensures
+    c.last_of-then-log-column.ensures ∙ ap (λ cs. victim_or_none (last_of_conflicts cs)) c.as_slice-then-log-column.ensures
     ∙ ap victim_or_none (sym (last_found (own ∷ front) c.next.new.self log c.args.column h c.if-log-column.true))
     ∙ ap (λ ls. victim_or_none (last_conflict (own ∷ ls) c.args.column)) (sym (q ∙ ap (λ r. front ++ r) e))
 

@@ -6,11 +6,11 @@ use Rattle.cw_strand.specs.declared.led.Led.{Led}
 use Rattle.cw_strand.specs.declared.want.Want.TheVariants.{Done}
 use Rattle.cw_strand.specs.Running.{wants}
 use Rattle.cw_strand.specs.Coded.{Frame, State, act, ended, returned}
-use Rattle.cw_strand.specs.Acting.{Acts, led_to}
+use Rattle.cw_strand.specs.Acting.{TakesEffect, led_to}
 use Rattle.cw_strand.proofs.strand.Strand.ret.Goals as goal
 
 -- a strand in which no function waits is done at a return
-last_ends : (s : State) (fs : List Frame) (l : Led) (t : State) → 0 < length s.current.operands → s.callers ≡ [] → fs ≡ [] → wants Done (ended s.scopes (record s { callers = fs })) ≡ led_to l t → (code : Code) (i : Instr) (p : ℕ) → Acts code ret i p s l t
+last_ends : (s : State) (fs : List Frame) (l : Led) (t : State) → 0 < length s.current.operands → s.callers ≡ [] → fs ≡ [] → wants Done (ended s.scopes (record s { callers = fs })) ≡ led_to l t → (code : Code) (i : Instr) (p : ℕ) → TakesEffect code ret i p s l t
 last_ends s fs l t some none left is code i p = at s.current.operands some
   where
     here : wants Done (ended s.scopes s) ≡ led_to l t

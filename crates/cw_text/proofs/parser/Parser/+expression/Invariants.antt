@@ -1,5 +1,5 @@
 use Rattle.std.proofs.Common.{[], ◌∷◌, ◌+◌, ◌-◌, ◌*◌}
-use Rattle.cw_text.specs.Cursor.{count_of}
+use Rattle.cw_text.specs.Cursor.{count_of_lexemes}
 use Rattle.cw_text.specs.Grammar.{operand, products, sums}
 use Rattle.cw_text.specs.Parser.{ahead}
 use Rattle.cw_text.proofs.Turns.{HasRead, HasReadArguments}
@@ -36,16 +36,16 @@ abbrev pub invariant-product-loop-op : goal.invariant-product-loop-op
 invariant-product-loop-op l = HasRead (operand ∷ products ∷ []) products l.fn.self l.self l.left
 
 abbrev pub decreases-product-loop-op : goal.decreases-product-loop-op
-decreases-product-loop-op l = count_of (ahead l.self)
+decreases-product-loop-op l = count_of_lexemes (ahead l.self)
 
 abbrev pub invariant-sum-loop-op : goal.invariant-sum-loop-op
 invariant-sum-loop-op l = HasRead (operand ∷ products ∷ sums ∷ []) sums l.fn.self l.self l.left
 
 abbrev pub decreases-sum-loop-op : goal.decreases-sum-loop-op
-decreases-sum-loop-op l = count_of (ahead l.self)
+decreases-sum-loop-op l = count_of_lexemes (ahead l.self)
 
 abbrev pub invariant-argument_list-loop-self : goal.invariant-argument_list-loop-self
 invariant-argument_list-loop-self l = HasReadArguments l.fn.self l.self l.list.items l.height
 
 abbrev pub decreases-argument_list-loop-self : goal.decreases-argument_list-loop-self
-decreases-argument_list-loop-self l = count_of (ahead l.self)
+decreases-argument_list-loop-self l = count_of_lexemes (ahead l.self)

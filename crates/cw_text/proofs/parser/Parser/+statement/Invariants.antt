@@ -1,5 +1,5 @@
 use Rattle.std.proofs.Common.{◌+◌, ◌-◌, ◌*◌}
-use Rattle.cw_text.specs.Cursor.{count_of}
+use Rattle.cw_text.specs.Cursor.{count_of_lexemes}
 use Rattle.cw_text.specs.Parser.{ahead}
 use Rattle.cw_text.proofs.Turns.{HasReadStatements}
 use Rattle.cw_text.proofs.parser.Parser.+statement.Given as goal
@@ -29,4 +29,4 @@ abbrev pub invariant-block-loop-body : goal.invariant-block-loop-body
 invariant-block-loop-body l = HasReadStatements l.fn.self l.self l.body.items
 
 abbrev pub decreases-block-loop-body : goal.decreases-block-loop-body
-decreases-block-loop-body l = count_of (ahead l.self)
+decreases-block-loop-body l = count_of_lexemes (ahead l.self)

@@ -1,4 +1,4 @@
--- Serves `Stops`: the stop word and who was told, after a step of one seat.
+-- Serves `StopWord`: the stop word and who was told, after a step of one seat.
 use Rattle.std.proofs.Common.{◌≡◌, ℕ, ◌<◌, List, arith, ap, inl, inr, sym, ◌∙◌, set, subst, true}
 use Rattle.std.specs.Prelude.{◌⊎◌, slice_index, IsTrue, is_some}
 use Rattle.std.proofs.lemmas.Bool.Decides.{eqb_tells}
@@ -7,7 +7,7 @@ use lib.ListN.{get_elem?}
 use Rattle.atomic_table.proofs.Lists.{at_set, set_else}
 use Rattle.cw_steps.specs.declared.view.View.{View}
 use Rattle.cw_steps.specs.Places.{stop_word}
-use Rattle.cw_steps.specs.Rule.{Stops, HasHalted}
+use Rattle.cw_steps.specs.Rule.{StopWord, HasHalted}
 use Rattle.cw_steps.proofs.Counts.{set_there}
 
 -- a halt stays
@@ -20,11 +20,11 @@ halted_set views id v w at kept h = elim (eqb_tells h.seat id) [
 
 -- the stop word is set after the step only where it was before, or where this seat has halted; and it was told only what is so
 pub stops_set : (cells : ℕ) (words words' : List ℕ) (views : List View) (id : ℕ) (v w : View)
-    → get_elem? views id ≡ some v → Stops cells words views
+    → get_elem? views id ≡ some v → StopWord cells words views
     → (IsTrue (is_some v.halt) → IsTrue (is_some w.halt))
     → (0 < slice_index words' (stop_word cells) → (0 < slice_index words (stop_word cells)) ⊎ IsTrue (is_some w.halt))
     → (w.told ≡ true → (v.told ≡ true) ⊎ (0 < slice_index words (stop_word cells)))
-    → Stops cells words' (set views id w)
+    → StopWord cells words' (set views id w)
 stops_set cells words words' views id v w at h kept word told = record {
   word = λ p. elim (word p) [
     | inl z ↦ halted_set views id v w at kept (h.word z)
@@ -41,15 +41,15 @@ stops_set cells words words' views id v w at h kept word told = record {
 
 -- neither word nor seat has anything to do with it
 pub stops_stay : (cells : ℕ) (words words' : List ℕ) (views : List View) (id : ℕ) (v w : View)
-    → get_elem? views id ≡ some v → Stops cells words views
+    → get_elem? views id ≡ some v → StopWord cells words views
     → slice_index words' (stop_word cells) ≡ slice_index words (stop_word cells) → w.halt ≡ v.halt → w.told ≡ v.told
-    → Stops cells words' (set views id w)
+    → StopWord cells words' (set views id w)
 stops_stay cells words words' views id v w at h same halt told =
     stops_set cells words words' views id v w at h (subst (λ o. IsTrue (is_some o)) (sym halt)) (λ p. inl (omega (arith, same, p))) (λ t. inl (sym told ∙ t))
 
 -- views change and no word does
-pub stops_views : (cells : ℕ) (words : List ℕ) (views views' : List View) → Stops cells words views
+pub stops_views : (cells : ℕ) (words : List ℕ) (views views' : List View) → StopWord cells words views
     → (HasHalted views → HasHalted views')
     → ((k : ℕ) (v : View) → get_elem? views' k ≡ some v → v.told ≡ true → HasHalted views)
-    → Stops cells words views'
+    → StopWord cells words views'
 stops_views cells words views views' h kept told = record { word = λ p. kept (h.word p); told = λ k v at t. kept (told k v at t) }

@@ -4,8 +4,8 @@ use Rattle.std.proofs.lemmas.Bool.{and_left, and_right}
 use Rattle.std.proofs.lemmas.Result.{on_ok_weaker}
 use Rattle.cw_open.specs.Machine.{has_finished}
 use Rattle.cw_sim.proofs.InMemory.Meets.{nodes_there, may_join, met_joins, met_alone}
-use Rattle.cw_sim.proofs.moves.Driver.meets.Goals as goal
-use Rattle.cw_sim.proofs.moves.Driver.meets.Goals.{else-has_finished-via-then-has_finished+else-has_finished-2, else-has_finished-via-else-has_finished}
+use Rattle.cw_sim.proofs.moves.Driver.joins_or_idles.Goals as goal
+use Rattle.cw_sim.proofs.moves.Driver.joins_or_idles.Goals.{else-has_finished-via-then-has_finished+else-has_finished-2, else-has_finished-via-else-has_finished}
 
 pub has_finished-requires : goal.has_finished-requires
 has_finished-requires c = let low = nodes_there c.args.self.now c.args.w c.args.fork c.requires.0 c.requires.1 in omega (arith, low)
