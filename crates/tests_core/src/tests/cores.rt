@@ -2,7 +2,7 @@ ghost use Rattle.std.specs.Prelude.{◌<◌};
 
 use cw_code::{Back, Limits};
 use cw_core::{Core, Event, Reply};
-use cw_tree::{Closed, Conflict, Halt};
+use cw_tree::{Closed, Conflict, Halt, Node};
 use std::alloc::Global;
 use std::test::Fail;
 
@@ -20,17 +20,32 @@ fn told(alloc: Global, reply: &Reply) -> Result<String, Fail> {
 }
 
 fn conflict_told(alloc: Global, conflict: &Conflict) -> Result<String, Fail> {
-    let chain = conflict.chain.as_slice();
     let Conflict {
         cell,
         last,
         asker,
+        ..
+    } = conflict;
+    let mut text = format!(in alloc; "conflict {cell} {last} {asker} ")?;
+    let rest = cause_told(alloc, conflict)?;
+    text.push_str(rest.as_str())?;
+    Ok(text)
+}
+
+/// The block that was met, the victim, the attempt, and the newest accesses of the cell.
+fn cause_told(alloc: Global, conflict: &Conflict) -> Result<String, Fail> {
+    let Conflict {
         block,
         victim,
         attempt,
         ..
     } = conflict;
-    Ok(format!(in alloc; "conflict {cell} {last} {asker} {block} {victim} {attempt} {chain:?} ")?)
+    let mut text = format!(in alloc; "{block} {victim} {attempt} of ")?;
+    for stamp in conflict.chain.as_slice() {
+        let line = format!(in alloc; "{stamp} ")?;
+        text.push_str(line.as_str())?;
+    }
+    Ok(text)
 }
 
 fn back_told(alloc: Global, list: &[Back]) -> Result<String, Fail> {
@@ -40,6 +55,15 @@ fn back_told(alloc: Global, list: &[Back]) -> Result<String, Fail> {
         text.push_str(line.as_str())?;
     }
     Ok(text)
+}
+
+/// The stamp of the newest node.
+fn newest_stamp(nodes: &[Node]) -> u64 {
+    let mut stamp = 0;
+    for node in nodes {
+        stamp = node.stamp;
+    }
+    stamp
 }
 
 /// The replies to a list of events, each of which is made if it fits, and then the stamp of the newest node.
@@ -60,15 +84,25 @@ fn replies(
         moves: 0,
     };
     let mut core = Core::new(alloc, first, limits)?;
+    let mut text = all_made(alloc, &mut core, events)?;
+    let stamp = stamp_told(alloc, &core)?;
+    text.push_str(stamp.as_str())?;
+    Ok(text)
+}
+
+/// The replies to these events.
+fn all_made(alloc: Global, core: &mut Core, events: &[Event]) -> Result<String, Fail> {
     let mut text = String::new(alloc);
     for event in events {
-        let line = made(alloc, &mut core, *event)?;
+        let line = made(alloc, core, *event)?;
         text.push_str(line.as_str())?;
     }
-    let stamp = core.tree().nodes().last().map_or(0, |node| node.stamp);
-    let line = format!(in alloc; "{stamp} ")?;
-    text.push_str(line.as_str())?;
     Ok(text)
+}
+
+fn stamp_told(alloc: Global, core: &Core) -> Result<String, Fail> {
+    let stamp = newest_stamp(core.tree().nodes());
+    Ok(format!(in alloc; "{stamp} ")?)
 }
 
 /// The reply to an event, or that it does not fit.
@@ -171,7 +205,7 @@ fn replies_to_cancels(rt: HostRuntime) -> Result<(), Fail> {
                 CANCEL_3,
                 read(3, 1),
             ],
-            "fork 1 2 3 done done 9 done done 5 back 1=0 0 done conflict 0 3 11 2 4 1 [3] no done done back 0 13 ",
+            "fork 1 2 3 done done 9 done done 5 back 1=0 0 done conflict 0 3 11 2 4 1 of 3 no done done back 0 13 ",
         ),
         // nor does an attempt that was rolled back beneath it
         (
@@ -201,7 +235,7 @@ fn replies_to_cancels(rt: HostRuntime) -> Result<(), Fail> {
                 Event::Join { fork: 2 },
                 CANCEL_0,
             ],
-            "done fork 2 3 4 done done 7 done 8 conflict 0 4 9 3 5 1 [4] done done done done 9 done done done back 0=1 12 ",
+            "done fork 2 3 4 done done 7 done 8 conflict 0 4 9 3 5 1 of 4 done done done done 9 done done done back 0=1 12 ",
         ),
         // before any begin; by a left strand in its parent's block; by a strand that waits; after a stop
         (
@@ -273,7 +307,7 @@ fn replies_to_events(rt: HostRuntime) -> Result<(), Fail> {
                 read(3, 0),
                 read(3, 1),
             ],
-            "fork 1 2 3 done done 1 done done 7 8 done 8 9 conflict 2 3 12 2 4 1 [3] no done 1 done 7 8 15 ",
+            "fork 1 2 3 done done 1 done done 7 8 done 8 9 conflict 2 3 12 2 4 1 of 3 no done 1 done 7 8 15 ",
         ),
         // a write in a split fork joined in a block
         (
@@ -303,7 +337,7 @@ fn replies_to_events(rt: HostRuntime) -> Result<(), Fail> {
                 Event::Commit { strand: 2 },
                 write(3, 0, 2),
             ],
-            "fork 1 2 3 done done fork 5 6 7 done 1 5 done done done conflict 0 4 10 2 0 1 [4] 1 conflict 0 4 12 2 0 2 [4] done 2 8 ",
+            "fork 1 2 3 done done fork 5 6 7 done 1 5 done done done conflict 0 4 10 2 0 1 of 4 1 conflict 0 4 12 2 0 2 of 4 done 2 8 ",
         ),
         // and in one joined before a block
         (
@@ -357,7 +391,7 @@ fn replies_to_events(rt: HostRuntime) -> Result<(), Fail> {
                 },
                 Event::Stop { halt: Halt::Memory },
             ],
-            "fork 1 2 3 done done 1 done fork 7 8 9 conflict 0 3 10 2 4 1 [3] no no no done no 0 ",
+            "fork 1 2 3 done done 1 done fork 7 8 9 conflict 0 3 10 2 4 1 of 3 no no no done no 0 ",
         ),
         // strands that die, and their parent rolls back
         (
@@ -388,7 +422,7 @@ fn replies_to_events(rt: HostRuntime) -> Result<(), Fail> {
                 Event::Roll { strand: 3 },
                 Event::Begin { strand: 3 },
             ],
-            "fork 1 2 3 done done 1 done fork 7 8 9 conflict 0 3 10 2 4 1 [3] no done done done no done done 7 ",
+            "fork 1 2 3 done done 1 done fork 7 8 9 conflict 0 3 10 2 4 1 of 3 no done done done no done done 7 ",
         ),
     ];
     for (first, strands, aborts, events, wanted) in table {
@@ -421,7 +455,7 @@ fn refused_by_a_deep_write(alloc: Global, depth: u32) -> Result<Vec<Event>, Fail
 fn a_refusal_draws_no_stamp(rt: HostRuntime) -> Result<(), Fail> {
     let events = refused_by_a_deep_write(rt.alloc(), 5_000)?;
     let text = replies(rt.alloc(), &[0], 100, 100_000, events.as_slice())?;
-    let last = "done 1 conflict 0 5002 5005 2 0 1 [5002] done 5003 ";
+    let last = "done 1 conflict 0 5002 5005 2 0 1 of 5002 done 5003 ";
     assert!(rt; text.as_str().ends_with(last));
     Ok(())
 }
@@ -456,9 +490,7 @@ fn closed_after(alloc: Global, events: &[Event]) -> Result<String, Fail> {
         moves: 0,
     };
     let mut core = Core::new(alloc, &[0], limits)?;
-    for event in events {
-        let _line = made(alloc, &mut core, *event)?;
-    }
+    let _text = all_made(alloc, &mut core, events)?;
     match core.close() {
         Ok(closed) => closed_told(alloc, &closed),
         Err((_core, error)) => Err(error.into()),

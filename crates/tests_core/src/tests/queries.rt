@@ -25,29 +25,39 @@ enum Question {
     Block(u64, u32),
 }
 
+fn word_of(gaps: &Gaps, gap: u32) -> u64 {
+    let gap = gap as usize;
+    if gap < gaps.words.len() {
+        gaps.words[gap]
+    } else {
+        0
+    }
+}
+
+fn fork(tier: &mut Tier, gaps: &Gaps, parent: u32) {
+    if parent < tier.used() {
+        let word = word_of(gaps, tier.gap(parent));
+        let _answer = tier.fork(word, parent);
+    }
+}
+
+fn split(tier: &mut Tier, fork: u32) {
+    if fork < tier.used() && fork % 2 == 1 && !tier.is_trace(fork) {
+        let _answer = tier.split(fork);
+    }
+}
+
+fn merge(tier: &mut Tier, fork: u32) {
+    if fork < tier.used() && fork % 2 == 1 && tier.is_trace(fork) {
+        tier.merge(fork);
+    }
+}
+
 fn make(tier: &mut Tier, gaps: &mut Gaps, call: Call) {
     match call {
-        Call::Fork(parent) => {
-            if parent < tier.used() {
-                let gap = tier.gap(parent) as usize;
-                let word = if gap < gaps.words.len() {
-                    gaps.words[gap]
-                } else {
-                    0
-                };
-                let _answer = tier.fork(word, parent);
-            }
-        }
-        Call::Split(fork) => {
-            if fork < tier.used() && fork % 2 == 1 && !tier.is_trace(fork) {
-                let _answer = tier.split(fork);
-            }
-        }
-        Call::Merge(fork) => {
-            if fork < tier.used() && fork % 2 == 1 && tier.is_trace(fork) {
-                tier.merge(fork);
-            }
-        }
+        Call::Fork(parent) => fork(tier, gaps, parent),
+        Call::Split(fork) => split(tier, fork),
+        Call::Merge(fork) => merge(tier, fork),
         Call::Word(gap, word) => {
             if (gap as usize) < gaps.words.len() {
                 gaps.set(gap, word);
@@ -300,6 +310,17 @@ fn is_so(tree: &Tree, last: u32, asker: u32, verdict: Verdict) -> bool
     }
 }
 
+/// Whether this block is above the access, by the columns.
+fn is_above<K: Ledger, L: Ledger>(
+    held: &mut Held<'_>,
+    block: Mark,
+    last: Mark,
+    looks: &mut Steps<K>,
+    compares: &mut Steps<L>,
+) -> bool {
+    contains_by(held, block, last, looks, compares)
+}
+
 /// The outermost pending block above the asker that is not above the access, by the columns.
 fn victim_by<K: Ledger, L: Ledger>(
     moment: &Moment,
@@ -313,9 +334,11 @@ fn victim_by<K: Ledger, L: Ledger>(
     requires asker { asker < length moment.now.tree }
 {
     let tree = &moment.tree;
+    let access = mark(moment, last);
     for n in 0..asker {
         if tree.is_pending(n) && tree.ancestor(n, asker) {
-            if !contains_by(held, mark(moment, n), mark(moment, last), looks, compares) {
+            let block = mark(moment, n);
+            if !is_above(held, block, access, looks, compares) {
                 return Some(n);
             }
         }
@@ -323,7 +346,58 @@ fn victim_by<K: Ledger, L: Ledger>(
     None
 }
 
-/// The verdicts of each access for each asker, or `?` where one, or a victim, is not what the tree has.
+/// The verdict on an access for an asker, or `?` where it, or the victim, is not what the tree has.
+fn verdict_told<K: Ledger, L: Ledger>(
+    alloc: Global,
+    moment: &Moment,
+    tier: &Tier,
+    gaps: &Gaps,
+    last: u32,
+    asker: u32,
+    looks: &mut Steps<K>,
+    compares: &mut Steps<L>,
+) -> Result<String, Fail>
+    requires last { last < length moment.now.tree }
+    requires asker { asker < length moment.now.tree }
+{
+    let tree = &moment.tree;
+    let by = mark(moment, asker).strand;
+    let verdict = ask(tier, gaps, mark(moment, last), by, looks, compares);
+    let mut held = Held {
+        tier: tier.reader(),
+        gaps: gaps.reader(),
+    };
+    let victim = victim_by(moment, &mut held, last, asker, looks, compares);
+    if is_so(tree, last, asker, verdict) && victim == tree.victim_plain(last, asker) {
+        Ok(format!(in alloc; "{verdict:?} ")?)
+    } else {
+        Ok(String::from_str(alloc, "? ")?)
+    }
+}
+
+/// The verdicts of each access for each asker.
+fn verdicts_told<K: Ledger, L: Ledger>(
+    alloc: Global,
+    moment: &Moment,
+    tier: &Tier,
+    gaps: &Gaps,
+    looks: &mut Steps<K>,
+    compares: &mut Steps<L>,
+) -> Result<String, Fail> {
+    let size = moment.tree.nodes().len();
+    let mut text = String::new(alloc);
+    for &last in &moment.accesses {
+        for &asker in &moment.askers {
+            if (last as usize) < size && (asker as usize) < size {
+                let line = verdict_told(alloc, moment, tier, gaps, last, asker, looks, compares)?;
+                text.push_str(line.as_str())?;
+            }
+        }
+    }
+    Ok(text)
+}
+
+/// The same on a tier and gap words of their own.
 fn verdicts<K: Ledger, L: Ledger>(
     alloc: Global,
     blanks: (Blank, Blank),
@@ -339,38 +413,7 @@ fn verdicts<K: Ledger, L: Ledger>(
     for call in &moment.calls {
         make(&mut tier, &mut gaps, *call);
     }
-    let mut held = Held {
-        tier: tier.reader(),
-        gaps: gaps.reader(),
-    };
-    let tree = &moment.tree;
-    let size = tree.nodes().len();
-    let mut text = String::new(alloc);
-    for &last in &moment.accesses {
-        for &asker in &moment.askers {
-            if (last as usize) < size && (asker as usize) < size {
-                let by = mark(moment, asker).strand;
-                let verdict = ask(
-                    &tier,
-                    &gaps,
-                    mark(moment, last),
-                    by,
-                    &mut looks,
-                    &mut compares,
-                );
-                let victim = victim_by(moment, &mut held, last, asker, &mut looks, &mut compares);
-                let right = is_so(tree, last, asker, verdict)
-                    && victim == tree.victim_plain(last, asker);
-                let line = if right {
-                    format!(in alloc; "{verdict:?} ")?
-                } else {
-                    String::from_str(alloc, "? ")?
-                };
-                text.push_str(line.as_str())?;
-            }
-        }
-    }
-    Ok(text)
+    verdicts_told(alloc, moment, &tier, &gaps, &mut looks, &mut compares)
 }
 
 /// The tree of these nodes beneath the root, each with its parent and stamp.

@@ -1,7 +1,7 @@
 ghost use Rattle.std.specs.Prelude.{◌≡◌, ◌<◌};
 
 use cw_order::Steps;
-use cw_trace::{Early, Inline, Tier};
+use cw_trace::{Early, Tier};
 use std::alloc::Global;
 use std::marker::Brand;
 use std::process::Abort;
@@ -16,78 +16,138 @@ enum Call {
     Merge(u32),
 }
 
-/// What was forked and split so far: the columns that forks were made from, by pairs, and whether each is split and not merged.
+/// What was made so far: of each fork the column that it was made from, and the fork of each split and each merge.
 #[derive(Drop)]
 struct Walk {
     parents: Vec<u32>,
-    split: Vec<bool>,
+    turned: Vec<u32>,
+}
+
+/// Whether the fork of this number from 0 is split, and not merged since.
+fn is_split(walk: &Walk, number: usize) -> bool {
+    let mut split = false;
+    for fork in &walk.turned {
+        if *fork as usize / 2 == number {
+            split = !split;
+        }
+    }
+    split
 }
 
 /// The owner of a strand by a walk up: its own column where its fork is split, else the owner of the strand that forked.
 fn owner_of(walk: &Walk, strand: u32) -> u32 {
     let mut at = strand;
-    for _ in 0..walk.split.len() {
+    for _ in 0..walk.parents.len() {
         if at == 0 {
             return 0;
         }
-        let pair = (at as usize - 1) / 2;
-        if pair >= walk.split.len() || pair >= walk.parents.len() || walk.split[pair] {
+        let number = (at as usize - 1) / 2;
+        if number >= walk.parents.len() || is_split(walk, number) {
             return at;
         }
-        at = walk.parents[pair];
+        at = walk.parents[number];
     }
     at
 }
 
-fn note(walk: &mut Walk, fork: u32, split: bool) {
-    let pair = fork as usize / 2;
-    if pair < walk.split.len() {
-        walk.split[pair] = split;
+fn fork(
+    alloc: Global,
+    tier: &mut Tier,
+    walk: &mut Walk,
+    word: u64,
+    parent: u32,
+) -> Result<String, Fail> {
+    if parent >= tier.used() {
+        return Ok(String::from_str(alloc, "no ")?);
     }
+    let Ok((left, right)) = tier.fork(word, parent) else {
+        return Ok(String::from_str(alloc, "inline ")?);
+    };
+    walk.parents.push(parent)?;
+    Ok(format!(in alloc; "{left},{right} ")?)
+}
+
+fn split(alloc: Global, tier: &mut Tier, walk: &mut Walk, fork: u32) -> Result<String, Fail> {
+    if fork >= tier.used() || fork % 2 != 1 || tier.is_trace(fork) {
+        return Ok(String::from_str(alloc, "no ")?);
+    }
+    if let Err(Early { before }) = tier.split(fork) {
+        return Ok(format!(in alloc; "early {before} ")?);
+    }
+    walk.turned.push(fork)?;
+    Ok(String::from_str(alloc, "ok ")?)
+}
+
+fn merge(alloc: Global, tier: &mut Tier, walk: &mut Walk, fork: u32) -> Result<String, Fail> {
+    if fork >= tier.used() || fork % 2 != 1 || !tier.is_trace(fork) {
+        return Ok(String::from_str(alloc, "no ")?);
+    }
+    tier.merge(fork);
+    walk.turned.push(fork)?;
+    Ok(String::from_str(alloc, "merged ")?)
 }
 
 /// Makes a call where it may be made, and tells the answer.
 fn made(alloc: Global, tier: &mut Tier, walk: &mut Walk, call: Call) -> Result<String, Fail> {
-    let used = tier.used();
-    Ok(match call {
-        Call::Fork(word, parent) => {
-            if parent >= used {
-                return Ok(String::from_str(alloc, "no ")?);
-            }
-            match tier.fork(word, parent) {
-                Ok((left, right)) => {
-                    walk.parents.push(parent)?;
-                    walk.split.push(false)?;
-                    format!(in alloc; "{left},{right} ")?
-                }
-                Err(Inline) => String::from_str(alloc, "inline ")?,
-            }
-        }
-        Call::Split(fork) => {
-            if fork >= used || fork % 2 != 1 || tier.is_trace(fork) {
-                return Ok(String::from_str(alloc, "no ")?);
-            }
-            match tier.split(fork) {
-                Ok(()) => {
-                    note(walk, fork, true);
-                    String::from_str(alloc, "ok ")?
-                }
-                Err(Early { before }) => format!(in alloc; "early {before} ")?,
-            }
-        }
-        Call::Merge(fork) => {
-            if fork >= used || fork % 2 != 1 || !tier.is_trace(fork) {
-                return Ok(String::from_str(alloc, "no ")?);
-            }
-            tier.merge(fork);
-            note(walk, fork, false);
-            String::from_str(alloc, "merged ")?
-        }
-    })
+    match call {
+        Call::Fork(word, parent) => fork(alloc, tier, walk, word, parent),
+        Call::Split(number) => split(alloc, tier, walk, number),
+        Call::Merge(number) => merge(alloc, tier, walk, number),
+    }
 }
 
-/// What calls answer, and then for each strand its owner and gap, and of each trace the lead and the nearest one around it with a pending
-/// block. An owner that is not that of the walk is shown as `?`.
+/// The owner and gap of a strand. An owner that is not that of the walk is shown as `?`.
+fn strand_told<L: Ledger>(
+    alloc: Global,
+    tier: &Tier,
+    walk: &Walk,
+    strand: u32,
+    steps: &mut Steps<L>,
+) -> Result<String, Fail> {
+    if strand >= tier.used() || tier.owner(strand, steps) != owner_of(walk, strand) {
+        return Ok(String::from_str(alloc, "? ")?);
+    }
+    let owner = owner_of(walk, strand);
+    let gap = tier.gap(strand);
+    Ok(format!(in alloc; "{owner}:{gap} ")?)
+}
+
+/// Of a trace the lead and the nearest one around it with a pending block, and whether it is inside the root's; nothing of what is none.
+fn trace_told<L: Ledger>(
+    alloc: Global,
+    tier: &Tier,
+    trace: u32,
+    steps: &mut Steps<L>,
+) -> Result<String, Fail> {
+    if trace >= tier.used() || !tier.is_trace(trace) || !tier.is_trace(0) {
+        return Ok(String::new(alloc));
+    }
+    let lead = tier.lead(trace, steps);
+    let up = tier.up(trace, steps);
+    let within = tier.inside(trace, 0, steps);
+    Ok(format!(in alloc; "[{trace} {lead:?} {up:?} {within}]")?)
+}
+
+/// So of each strand, and then of each trace.
+fn tier_told<L: Ledger>(
+    alloc: Global,
+    tier: &Tier,
+    walk: &Walk,
+    steps: &mut Steps<L>,
+) -> Result<String, Fail> {
+    let mut text = String::new(alloc);
+    for strand in 0..tier.used() {
+        let line = strand_told(alloc, tier, walk, strand, steps)?;
+        text.push_str(line.as_str())?;
+    }
+    for trace in 0..tier.used() {
+        let line = trace_told(alloc, tier, trace, steps)?;
+        text.push_str(line.as_str())?;
+    }
+    Ok(text)
+}
+
+/// What calls answer, and then what the tier tells.
 fn told<L: Ledger>(
     alloc: Global,
     room: u32,
@@ -99,32 +159,15 @@ fn told<L: Ledger>(
     let mut tier = Tier::with_strands(alloc, room)?;
     let mut walk = Walk {
         parents: Vec::new(alloc),
-        split: Vec::new(alloc),
+        turned: Vec::new(alloc),
     };
     let mut text = String::new(alloc);
     for call in calls {
         let answer = made(alloc, &mut tier, &mut walk, *call)?;
         text.push_str(answer.as_str())?;
     }
-    for strand in 0..tier.used() {
-        let owner = tier.owner(strand, steps);
-        let gap = tier.gap(strand);
-        let line = if owner == owner_of(&walk, strand) {
-            format!(in alloc; "{owner}:{gap} ")?
-        } else {
-            format!(in alloc; "? ")?
-        };
-        text.push_str(line.as_str())?;
-    }
-    for trace in 0..tier.used() {
-        if tier.is_trace(trace) && tier.is_trace(0) {
-            let lead = tier.lead(trace, steps);
-            let up = tier.up(trace, steps);
-            let within = tier.inside(trace, 0, steps);
-            let line = format!(in alloc; "[{trace} {lead:?} {up:?} {within}]")?;
-            text.push_str(line.as_str())?;
-        }
-    }
+    let rest = tier_told(alloc, &tier, &walk, steps)?;
+    text.push_str(rest.as_str())?;
     Ok(text)
 }
 

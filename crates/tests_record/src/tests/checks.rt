@@ -1,8 +1,10 @@
+ghost use Rattle.std.specs.Prelude.{◌≡◌, [], IfOk};
+
 use super::grown::grown;
 use super::machines::program;
 use super::orders::ordered;
 use cw_base::Seq;
-use cw_code::{FaultKind, Limits};
+use cw_code::{FaultKind, Limits, Program};
 use cw_record::{Checked, Record, RecordEnd, check};
 use cw_tree::{Conflict, Kind, Tree};
 use std::alloc::Global;
@@ -16,18 +18,20 @@ const ALONE: &str = "cell c; fn main() { atomic { spawn { atomic { c = 1; } } c 
 
 const COUNTS: &str = "cell c; fn main() { c = c + 1; out c; }";
 
-// What a check says of a run of that program with that budget, of this tree and these conflicts, that ended so, in its own order.
-pub fn said(
+// A run of that program with that budget, of this tree and these conflicts, that ended so, in its own order.
+fn run(
     alloc: Global,
-    text: &str,
+    program: Program,
     aborts: u32,
     tree: Tree,
     conflicts: Seq<Conflict>,
     end: RecordEnd,
-) -> Result<Checked, Fail> {
+) -> Result<Record, Fail>
+    ensures { IfOk result (λ r. (r.program ≡ program) × (r.words ≡ [])) }
+{
     let order = ordered(alloc, &tree, conflicts.as_slice(), aborts, &end)?;
-    let run = Record {
-        program: program(alloc, text)?,
+    Ok(Record {
+        program,
         words: Seq::new(alloc),
         limits: Limits {
             fuel: 9,
@@ -41,7 +45,19 @@ pub fn said(
         conflicts,
         order,
         end,
-    };
+    })
+}
+
+// What a check says of it.
+pub fn said(
+    alloc: Global,
+    text: &str,
+    aborts: u32,
+    tree: Tree,
+    conflicts: Seq<Conflict>,
+    end: RecordEnd,
+) -> Result<Checked, Fail> {
+    let run = run(alloc, program(alloc, text)?, aborts, tree, conflicts, end)?;
     Ok(check(alloc, &run)?)
 }
 

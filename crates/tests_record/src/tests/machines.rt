@@ -1,5 +1,6 @@
-ghost use Rattle.std.specs.Prelude.{IfOk};
+ghost use Rattle.std.specs.Prelude.{IfOk, OnOk};
 ghost use Rattle.cw_job.specs.Jobs.{TakesWords};
+ghost use Rattle.cw_serial.specs.InMemory.{Runs};
 ghost use Rattle.cw_strand.specs.Programs.{IsCompiled};
 
 use cw_base::Seq;
@@ -152,6 +153,23 @@ fn standing(alloc: Global, machine: &Machine) -> Result<String, Fail> {
     Ok(format!(in alloc; "{wants:?}")?)
 }
 
+// The same once this strand was picked.
+fn picked(
+    alloc: Global,
+    program: &Program,
+    machine: &mut Machine,
+    strand: u32,
+) -> Result<String, Fail>
+    requires { Runs program.now machine.old }
+    ensures { OnOk result (Runs program.now machine.new) }
+{
+    if machine.pick(program, strand)? {
+        standing(alloc, machine)
+    } else {
+        Err("no pick".into())
+    }
+}
+
 #[test]
 fn an_update_is_lost_step_by_step(rt: HostRuntime) -> Result<(), Fail> {
     let alloc = rt.alloc();
@@ -168,8 +186,8 @@ fn an_update_is_lost_step_by_step(rt: HostRuntime) -> Result<(), Fail> {
         (0, "[None, None, None]"),
     ];
     for (strand, wanted) in table {
-        assert!(rt; machine.pick(&program, strand)?);
-        assert_eq!(rt; standing(alloc, &machine)?.as_str(), wanted);
+        let wants = picked(alloc, &program, &mut machine, strand)?;
+        assert_eq!(rt; wants.as_str(), wanted);
     }
     assert_eq!(rt; machine.names(), names.as_slice());
     assert_eq!(rt; machine.memory(), [1].as_slice());

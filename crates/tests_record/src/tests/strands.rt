@@ -273,15 +273,24 @@ fn ends(strand: &mut Strand, program: &Program, number: i64) -> Result<(), Fail>
     }
 }
 
-// What the strand that forked wants, where its size is limited so.
+// Both strands of a fork end and are joined: what the strand that forked wants then.
+fn want_behind(left: Strand, right: Strand, program: &Program) -> Result<Want, Fail>
+    requires left { StandsIn program.now.code left }
+    requires right { StandsIn program.now.code right }
+{
+    let (mut left, mut right) = (left, right);
+    ends(&mut left, program, 1)?;
+    ends(&mut right, program, 2)?;
+    right.joined(left);
+    Ok(right.next(program, Given::Nothing)?)
+}
+
+// The same where its size is limited so.
 fn want_after_join(alloc: Global, size: u32) -> Result<Want, Fail> {
     let program = program(alloc, &forks())?;
     let mut right = strand_of(alloc, &program, within(1, size))?;
-    let mut left = forked(alloc, &mut right, &program)?;
-    ends(&mut left, &program, 1)?;
-    ends(&mut right, &program, 2)?;
-    right.joined(left);
-    Ok(right.next(&program, Given::Nothing)?)
+    let left = forked(alloc, &mut right, &program)?;
+    want_behind(left, right, &program)
 }
 
 #[test]
