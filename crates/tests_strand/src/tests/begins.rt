@@ -91,22 +91,36 @@ fn to_write(strand: &mut Strand, program: &Program) -> Result<(), Fail>
     Ok(())
 }
 
-// The last output or fault of a strand that went through its block, went back to the begin and through the block again. After an output it
-// is done.
+// Goes through the block, back to its begin and through the block again.
+fn twice(strand: &mut Strand, program: &Program) -> Result<(), Fail>
+    requires { StandsWanting program.now.code Begin strand.old }
+    ensures { OnOk result (StandsIn program.now.code strand.new) }
+{
+    let saved = strand.save()?;
+    to_output(strand, program)?;
+    strand.back(&saved);
+    to_output(strand, program)
+}
+
+// The last output or fault of a strand behind its block. After an output it is done.
+fn last(strand: &mut Strand, program: &Program) -> Result<Want, Fail>
+    requires { StandsIn program.now.code strand.old }
+{
+    wants(strand, program, Want::End)?;
+    let last = strand.next(program, Given::Nothing)?;
+    if last == Want::Out(2) {
+        wants(strand, program, Want::Done)?;
+    }
+    Ok(last)
+}
+
+// The same where it went through the block twice.
 fn last_output(alloc: Global, limits: Limits) -> Result<Want, Fail> {
     let program = program(alloc, CHANGES)?;
     let mut strand = strand_of(alloc, &program, limits)?;
     wants(&mut strand, &program, Want::Begin)?;
-    let saved = strand.save()?;
-    to_output(&mut strand, &program)?;
-    strand.back(&saved);
-    to_output(&mut strand, &program)?;
-    wants(&mut strand, &program, Want::End)?;
-    let last = strand.next(&program, Given::Nothing)?;
-    if last == Want::Out(2) {
-        wants(&mut strand, &program, Want::Done)?;
-    }
-    Ok(last)
+    twice(&mut strand, &program)?;
+    last(&mut strand, &program)
 }
 
 #[test]
@@ -134,24 +148,38 @@ fn a_strand_that_was_given_up_goes_back(rt: HostRuntime) -> Result<(), Fail> {
     given_up(rt.alloc())
 }
 
-// The strand is told to write both elements back, and does: the block ends, and the local stays.
+// The strand writes both elements in its block, and gives it up.
+fn to_cancel(strand: &mut Strand, program: &Program) -> Result<(), Fail>
+    requires { StandsIn program.now.code strand.old }
+    ensures { OnOk result (StandsIn program.now.code strand.new) }
+{
+    wants(strand, program, Want::Begin)?;
+    wants(strand, program, Want::Store(1, 1))?;
+    wants(strand, program, Want::Store(0, 9))?;
+    wants(strand, program, Want::Cancel)
+}
+
+// It is told to write both back, and does: the block ends, and the local stays.
+fn from_cancel(strand: &mut Strand, program: &Program, back: Seq<Back>) -> Result<(), Fail>
+    requires { StandsIn program.now.code strand.old }
+{
+    if strand.next(program, Given::Back(back))? != Want::Store(0, 5) {
+        return Err("nothing is written back".into());
+    }
+    wants(strand, program, Want::Store(1, 0))?;
+    wants(strand, program, Want::End)?;
+    wants(strand, program, Want::Out(2))?;
+    wants(strand, program, Want::Done)
+}
+
 fn written_back(alloc: Global) -> Result<(), Fail> {
-    let program = program(alloc, CANCELS)?;
-    let mut strand = strand_of(alloc, &program, within(9, 9))?;
-    wants(&mut strand, &program, Want::Begin)?;
-    wants(&mut strand, &program, Want::Store(1, 1))?;
-    wants(&mut strand, &program, Want::Store(0, 9))?;
-    wants(&mut strand, &program, Want::Cancel)?;
     let mut back = Seq::new(alloc);
     back.push(Back { cell: 0, value: 5 })?;
     back.push(Back { cell: 1, value: 0 })?;
-    if strand.next(&program, Given::Back(back))? != Want::Store(0, 5) {
-        return Err("nothing is written back".into());
-    }
-    wants(&mut strand, &program, Want::Store(1, 0))?;
-    wants(&mut strand, &program, Want::End)?;
-    wants(&mut strand, &program, Want::Out(2))?;
-    wants(&mut strand, &program, Want::Done)
+    let program = program(alloc, CANCELS)?;
+    let mut strand = strand_of(alloc, &program, within(9, 9))?;
+    to_cancel(&mut strand, &program)?;
+    from_cancel(&mut strand, &program, back)
 }
 
 #[test]
