@@ -58,20 +58,47 @@ fn put<N: Naming>(cast: &mut Cast<N>, n: usize, led: Strand<N>) {
     }
 }
 
-fn conflict_told(alloc: Global, conflict: &Conflict) -> Result<String, Fail> {
-    let chain = conflict.chain.as_slice();
+/// The stamps of a chain, each with a blank.
+fn stamps_told(alloc: Global, chain: &[u64]) -> Result<String, Fail> {
+    let mut text = String::new(alloc);
+    for stamp in chain {
+        let line = format!(in alloc; "{stamp} ")?;
+        text.push_str(line.as_str())?;
+    }
+    Ok(text)
+}
+
+/// The block that was met, the victim and the attempt.
+fn cause_told(alloc: Global, conflict: &Conflict) -> Result<String, Fail> {
     let Conflict {
-        cell,
-        last,
-        asker,
         block,
         victim,
         attempt,
         ..
     } = conflict;
-    Ok(format!(in alloc;
-        "conflict {cell} last {last} asker {asker} block {block} victim {victim} attempt {attempt} {chain:?} "
-    )?)
+    Ok(format!(in alloc; "block {block} victim {victim} attempt {attempt} of ")?)
+}
+
+fn conflict_told(alloc: Global, conflict: &Conflict) -> Result<String, Fail> {
+    let Conflict {
+        cell,
+        last,
+        asker,
+        ..
+    } = conflict;
+    let mut text = format!(in alloc; "conflict {cell} last {last} asker {asker} ")?;
+    let cause = cause_told(alloc, conflict)?;
+    text.push_str(cause.as_str())?;
+    let chain = stamps_told(alloc, conflict.chain.as_slice())?;
+    text.push_str(chain.as_str())?;
+    Ok(text)
+}
+
+fn chain_told(alloc: Global, chain: &[u64]) -> Result<String, Fail> {
+    let mut text = format!(in alloc; "chain ")?;
+    let stamps = stamps_told(alloc, chain)?;
+    text.push_str(stamps.as_str())?;
+    Ok(text)
 }
 
 fn access_told(alloc: Global, access: &Access) -> Result<String, Fail> {
@@ -79,6 +106,37 @@ fn access_told(alloc: Global, access: &Access) -> Result<String, Fail> {
         Access::Value(value) => Ok(format!(in alloc; "{value} ")?),
         Access::Conflict(conflict) => conflict_told(alloc, conflict),
     }
+}
+
+/// A strand after a call of it that answers nothing.
+fn moved<N: Naming, R: Wait>(
+    rt: &R,
+    scene: &Scene<N>,
+    led: Strand<N>,
+    call: Call,
+) -> Result<Strand<N>, OutOfMemory> {
+    match call {
+        Call::Begin(_) => scene.begin(led),
+        Call::Commit(_) => scene.commit(led),
+        Call::Out(_, value) => scene.out(led, value),
+        Call::Split(_) => scene.split(rt, led),
+        Call::Merge(_) => scene.merge(rt, led),
+        Call::Roll(_) => scene.roll(rt, led),
+        _ => Ok(led),
+    }
+}
+
+/// What an access answers.
+fn accessed<N: Naming, R: Wait>(
+    rt: &R,
+    alloc: Global,
+    scene: &Scene<N>,
+    led: Strand<N>,
+    cell: u32,
+    write: Option<i64>,
+) -> Result<(Strand<N>, String), Fail> {
+    let (led, access) = scene.access(rt, led, cell, write)?;
+    Ok((led, access_told(alloc, &access)?))
 }
 
 /// What a call of a strand other than fork or join answers.
@@ -89,32 +147,19 @@ fn told<N: Naming, R: Wait>(
     led: Strand<N>,
     call: Call,
 ) -> Result<(Strand<N>, String), Fail> {
-    let none = format!(in alloc; "")?;
-    Ok(match call {
-        Call::Begin(_) => (scene.begin(led)?, none),
-        Call::Commit(_) => (scene.commit(led)?, none),
-        Call::Out(_, value) => (scene.out(led, value)?, none),
-        Call::Split(_) => (scene.split(rt, led)?, none),
-        Call::Merge(_) => (scene.merge(rt, led)?, none),
-        Call::Roll(_) => (scene.roll(rt, led)?, none),
-        Call::Read(_, cell) => {
-            let (led, access) = scene.access(rt, led, cell, None)?;
-            (led, access_told(alloc, &access)?)
-        }
-        Call::Write(_, cell, value) => {
-            let (led, access) = scene.access(rt, led, cell, Some(value))?;
-            (led, access_told(alloc, &access)?)
-        }
+    match call {
+        Call::Read(_, cell) => accessed(rt, alloc, scene, led, cell, None),
+        Call::Write(_, cell, value) => accessed(rt, alloc, scene, led, cell, Some(value)),
         Call::Chain(_, cell) => {
             let (led, chain) = scene.chain(rt, led, cell)?;
-            (led, format!(in alloc; "{chain:?} ")?)
+            Ok((led, chain_told(alloc, chain.as_slice())?))
         }
         Call::Ask(_, strand, stamp) => {
             let (led, verdict) = scene.ask(rt, led, Mark { strand, stamp });
-            (led, format!(in alloc; "{verdict:?} ")?)
+            Ok((led, format!(in alloc; "{verdict:?} ")?))
         }
-        Call::Fork(_) | Call::Join(_, _) => (led, none),
-    })
+        _ => Ok((moved(rt, scene, led, call)?, String::new(alloc))),
+    }
 }
 
 fn who(call: Call) -> usize {
@@ -240,7 +285,7 @@ fn one_strand_reads_what_it_wrote(rt: HostRuntime) -> Result<(), Fail> {
     let text = row(&rt, rt.alloc(), &[0], &calls)?;
     assert_eq!(rt;
         text.as_str(),
-        "5 [1] Free 5 Within nodes 0 1 2-4 3 5 cell 1=5 3=5"
+        "5 chain 1 Free 5 Within nodes 0 1 2-4 3 5 cell 1=5 3=5"
     );
     Ok(())
 }
@@ -287,7 +332,7 @@ fn strands_take_turns(rt: HostRuntime) -> Result<(), Fail> {
                 Call::Join(0, 1),
                 Call::Merge(0),
             ],
-            "1 conflict 0 last 3 asker 3 block 2 victim 4 attempt 1 [3] 2 nodes 0 1 0 2-6 3 0 4-8 5-7 0 9-13 10-12 11 refused 8 by 2 cell 3=1 11=2",
+            "1 conflict 0 last 3 asker 3 block 2 victim 4 attempt 1 of 3 2 nodes 0 1 0 2-6 3 0 4-8 5-7 0 9-13 10-12 11 refused 8 by 2 cell 3=1 11=2",
         ),
         (
             "a stolen branch is joined before a block",
@@ -334,7 +379,7 @@ fn strands_take_turns(rt: HostRuntime) -> Result<(), Fail> {
                 Call::Join(0, 1),
                 Call::Merge(0),
             ],
-            "1 5 Against(2) conflict 0 last 4 asker 1 block 2 victim 0 attempt 1 [4] conflict 0 last 4 asker 2 block 2 victim 0 attempt 2 [4] 1 2 nodes 0 1 0 2-7 3 0 5 0 4 6 0 0 0 8 refused 11 by 2 refused 12 by 2 cell 4=1 8=2 cell 5=5 6=1",
+            "1 5 Against(2) conflict 0 last 4 asker 1 block 2 victim 0 attempt 1 of 4 conflict 0 last 4 asker 2 block 2 victim 0 attempt 2 of 4 1 2 nodes 0 1 0 2-7 3 0 5 0 4 6 0 0 0 8 refused 11 by 2 refused 12 by 2 cell 4=1 8=2 cell 5=5 6=1",
         ),
         (
             "a block is undone after one within it was committed",
@@ -368,7 +413,7 @@ fn strands_take_turns(rt: HostRuntime) -> Result<(), Fail> {
                 Call::Join(0, 1),
                 Call::Merge(0),
             ],
-            "1 7 8 8 9 conflict 2 last 3 asker 7 block 2 victim 4 attempt 1 [3] [] [] 7 8 8 9 2 nodes 0 1 0 2-12 3 0 4-11 5-8 6 7 9 10 0 13-21 14-17 15 16 18 19 20 refused 12 by 2 cell 15=7 16=8 cell 18=8 19=9 cell 3=1 20=2",
+            "1 7 8 8 9 conflict 2 last 3 asker 7 block 2 victim 4 attempt 1 of 3 chain chain 7 8 8 9 2 nodes 0 1 0 2-12 3 0 4-11 5-8 6 7 9 10 0 13-21 14-17 15 16 18 19 20 refused 12 by 2 cell 15=7 16=8 cell 18=8 19=9 cell 3=1 20=2",
         ),
     ];
     for (name, init, calls, wanted) in table {
