@@ -25,8 +25,8 @@ const ODDS: Odds = Odds {
     early: 25,
 };
 
-// So many seeds for each number of workers.
-const SEEDS: u64 = 1000;
+// So many seeds for each number of workers: with other work beside, a run may take a hundredth of a second.
+const SEEDS: u64 = 100;
 
 // So many blocks in each other would be rolled back before the innermost is reached.
 const NEVER: Odds = Odds { refused: 0, ..ODDS };
@@ -146,8 +146,13 @@ fn runs<R: Threads + Wait + Sync>(
 
 const WHOLE: (Ending, Ending) = (Ending::Whole, Ending::Whole);
 
-#[test]
-fn logs_of_worked_programs_are_walked(rt: HostRuntime) -> Result<(), Fail> {
+// The worked programs, each run by so many workers.
+fn worked_programs<R: Threads + Wait + Sync>(
+    rt: &R,
+    alloc: Global,
+    workers: u32,
+    seeds: u64,
+) -> Result<(), Fail> {
     let table = [
         row(LOST, WIDE, ODDS, WHOLE),
         row(OUTER, WIDE, ODDS, WHOLE),
@@ -161,11 +166,29 @@ fn logs_of_worked_programs_are_walked(rt: HostRuntime) -> Result<(), Fail> {
         row(TREES, WIDE, ODDS, WHOLE),
     ];
     for trial in table {
-        for (workers, seeds) in [(1, SEEDS), (2, SEEDS), (4, SEEDS), (64, 2)] {
-            runs(&rt, rt.alloc(), trial, workers, seeds)?;
-        }
+        runs(rt, alloc, trial, workers, seeds)?;
     }
     Ok(())
+}
+
+#[test]
+fn logs_of_one_worker_are_walked(rt: HostRuntime) -> Result<(), Fail> {
+    worked_programs(&rt, rt.alloc(), 1, SEEDS)
+}
+
+#[test]
+fn logs_of_two_workers_are_walked(rt: HostRuntime) -> Result<(), Fail> {
+    worked_programs(&rt, rt.alloc(), 2, SEEDS)
+}
+
+#[test]
+fn logs_of_four_workers_are_walked(rt: HostRuntime) -> Result<(), Fail> {
+    worked_programs(&rt, rt.alloc(), 4, SEEDS)
+}
+
+#[test]
+fn logs_of_many_workers_are_walked(rt: HostRuntime) -> Result<(), Fail> {
+    worked_programs(&rt, rt.alloc(), 64, 2)
 }
 
 #[test]
