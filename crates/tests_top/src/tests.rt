@@ -81,6 +81,56 @@ fn told<R: AllocGlobal + Threads + Wait + Sync>(
     Ok((said, sink.taken().to_vec(rt.alloc())?))
 }
 
+// The status and the text of a run of this source.
+fn ran<R: AllocGlobal + Threads + Wait + Sync>(
+    rt: &R,
+    words: &[&str],
+    text: &[u8],
+) -> Result<(u8, Vec<u8>), Fail> {
+    let mut source = SureSource::new(text.to_vec(rt.alloc())?, 100);
+    let mut sink = SureSink::with_room(rt.alloc(), 100)?;
+    let said = ask(rt, words, &mut source, &mut sink)?;
+    Ok((said.status, sink.taken().to_vec(rt.alloc())?))
+}
+
+// The status of such a run at this gate.
+fn status_at<R: AllocGlobal + Threads + Wait + Sync, G: Gate>(
+    rt: &R,
+    words: &[&str],
+    text: &[u8],
+    gate: &G,
+) -> Result<u8, Fail> {
+    let mut source = SureSource::new(text.to_vec(rt.alloc())?, 100);
+    let mut sink = SureSink::with_room(rt.alloc(), 100)?;
+    let reply = answer_at(rt, words, &mut source, &mut sink, gate)?;
+    Ok(reply.status)
+}
+
+// What is said and written where that call of a source fails that gives a byte at a time.
+fn read_by_bytes<R: AllocGlobal + Threads + Wait + Sync>(
+    rt: &R,
+    call: u64,
+) -> Result<(Said, Vec<u8>), Fail> {
+    let bytes = COUNTS.to_vec(rt.alloc())?;
+    let mut source = MemSource::new(bytes, 1, [call].to_vec(rt.alloc())?);
+    let mut sink = SureSink::with_room(rt.alloc(), 100)?;
+    let said = ask(rt, &["run"], &mut source, &mut sink)?;
+    Ok((said, sink.taken().to_vec(rt.alloc())?))
+}
+
+// What is said and written of a source, and whether it was read to its end.
+fn read_to_end<R: AllocGlobal + Threads + Wait + Sync>(
+    rt: &R,
+    words: &[&str],
+    text: &[u8],
+) -> Result<(Said, Vec<u8>, bool), Fail> {
+    let mut source = SureSource::new(text.to_vec(rt.alloc())?, 5);
+    let mut sink = SureSink::with_room(rt.alloc(), 10)?;
+    let said = ask(rt, words, &mut source, &mut sink)?;
+    let is_read = source.read(&mut [0u8; 1]) == Ok(0);
+    Ok((said, sink.taken().to_vec(rt.alloc())?, is_read))
+}
+
 // A program followed by blanks, so many bytes in all.
 fn padded(alloc: Global, length: usize) -> Result<Vec<u8>, Fail> {
     let mut text = b"fn main() {}".to_vec(alloc)?;
@@ -94,11 +144,10 @@ fn padded(alloc: Global, length: usize) -> Result<Vec<u8>, Fail> {
 #[test]
 fn a_source_may_have_so_many_bytes(rt: HostRuntime) -> Result<(), Fail> {
     for (length, status) in [(1_048_576, 0), (1_048_577, 5), (1_100_000, 5)] {
-        let mut source = SureSource::new(padded(rt.alloc(), length)?, 10_000);
-        let mut sink = SureSink::with_room(rt.alloc(), 100)?;
-        let said = ask(&rt, &["run"], &mut source, &mut sink)?;
-        assert_eq!(rt; said.status, status, "{length} bytes");
-        assert_eq!(rt; sink.taken().len(), if status == 0 { 4 } else { 0 });
+        let text = padded(rt.alloc(), length)?;
+        let (said, told) = ran(&rt, &["run"], text.as_slice())?;
+        assert_eq!(rt; said, status, "{length} bytes");
+        assert_eq!(rt; told.len(), if status == 0 { 4 } else { 0 });
     }
     Ok(())
 }
@@ -116,11 +165,9 @@ fn the_words_are_read_first(rt: HostRuntime) -> Result<(), Fail> {
         &[""],
     ];
     for words in table {
-        let mut source = SureSource::new(COUNTS.to_vec(rt.alloc())?, 9);
-        let mut sink = SureSink::with_room(rt.alloc(), 10)?;
-        let said = ask(&rt, words, &mut source, &mut sink)?;
-        assert_eq!(rt; said.status, 2);
-        assert_eq!(rt; sink.taken(), b"".as_slice());
+        let (status, told) = ran(&rt, words, COUNTS)?;
+        assert_eq!(rt; status, 2);
+        assert!(rt; told.is_empty());
     }
     Ok(())
 }
@@ -135,13 +182,11 @@ fn the_number_of_words_comes_last(rt: HostRuntime) -> Result<(), Fail> {
         (b"fn main() {", &["run", "7"], 5, b""),
     ];
     for (text, words, status, wanted) in table {
-        let mut source = SureSource::new(text.to_vec(rt.alloc())?, 5);
-        let mut sink = SureSink::with_room(rt.alloc(), 10)?;
-        let said = ask(&rt, words, &mut source, &mut sink)?;
+        let (said, told, is_read) = read_to_end(&rt, words, text)?;
         assert_eq!(rt; said.status, status);
         assert_eq!(rt; said.is_kept, status == 0);
-        assert_eq!(rt; sink.taken(), wanted);
-        assert_eq!(rt; source.read(&mut [0u8; 1]), Ok(0));
+        assert_eq!(rt; told.as_slice(), wanted);
+        assert!(rt; is_read);
     }
     Ok(())
 }
@@ -171,13 +216,10 @@ fn a_front_is_written_before_a_write_that_fails(rt: HostRuntime) -> Result<(), F
 #[test]
 fn a_read_that_fails_writes_nothing(rt: HostRuntime) -> Result<(), Fail> {
     for call in 1..=41u64 {
-        let bytes = COUNTS.to_vec(rt.alloc())?;
-        let mut source = MemSource::new(bytes, 1, [call].to_vec(rt.alloc())?);
-        let mut sink = SureSink::with_room(rt.alloc(), 100)?;
-        let said = ask(&rt, &["run"], &mut source, &mut sink)?;
+        let (said, told) = read_by_bytes(&rt, call)?;
         assert_eq!(rt; said.status, if call == 41 { 0 } else { 3 });
         assert_eq!(rt; said.is_kept, call == 41);
-        assert_eq!(rt; sink.taken().is_empty(), call != 41);
+        assert_eq!(rt; told.is_empty(), call != 41);
     }
     Ok(())
 }

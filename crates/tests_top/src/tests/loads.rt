@@ -1,5 +1,5 @@
 use super::outside::Counter;
-use super::{answer_at, ask};
+use super::{ask, status_at};
 use cw_io::{Source, SureSink, SureSource};
 use std::sync::Wait;
 use std::sync::atomic::{AtomicU64, Ordering};
@@ -59,10 +59,8 @@ fn several_workers_of_a_load_come_to_the_gate(rt: HostRuntime) -> Result<(), Fai
         let gate = Counter {
             calls: AtomicU64::new(0),
         };
-        let mut source = SureSource::new(b"x".to_vec(rt.alloc())?, 1);
-        let mut sink = SureSink::with_room(rt.alloc(), 100)?;
-        let reply = answer_at(&rt, &["load", workers, "17"], &mut source, &mut sink, &gate)?;
-        assert_eq!(rt; reply.status, 0, "{workers}");
+        let status = status_at(&rt, &["load", workers, "17"], b"x", &gate)?;
+        assert_eq!(rt; status, 0, "{workers}");
         assert_eq!(rt; gate.calls.load(Ordering::SeqCst) != 0, is_met, "{workers}");
     }
     Ok(())

@@ -1,25 +1,43 @@
-use super::{COUNTS, answer_at, ask};
+use super::{COUNTS, ask, status_at};
 use cw_io::{Gate, MemSink, Point, SureSink, SureSource};
 use std::sync::Wait;
 use std::sync::atomic::{AtomicU64, Ordering};
 use std::test::Fail;
 use std::thread::Threads;
 
+// The status and the text over a sink that takes all that it is given, and has so much room.
+fn by_all<R: AllocGlobal + Threads + Wait + Sync>(
+    rt: &R,
+    room: usize,
+) -> Result<(u8, Vec<u8>), Fail> {
+    let mut source = SureSource::new(COUNTS.to_vec(rt.alloc())?, 7);
+    let mut sink = SureSink::with_room(rt.alloc(), room)?;
+    let said = ask(rt, &["run"], &mut source, &mut sink)?;
+    Ok((said.status, sink.taken().to_vec(rt.alloc())?))
+}
+
+// The same over one that takes four bytes at a time.
+fn by_fours<R: AllocGlobal + Threads + Wait + Sync>(
+    rt: &R,
+    room: usize,
+) -> Result<(u8, Vec<u8>), Fail> {
+    let mut source = SureSource::new(COUNTS.to_vec(rt.alloc())?, 7);
+    let mut sink = MemSink::with_room(rt.alloc(), room, 4, Vec::new(rt.alloc()))?;
+    let said = ask(rt, &["run"], &mut source, &mut sink)?;
+    Ok((said.status, sink.taken().to_vec(rt.alloc())?))
+}
+
 // A text of 16 bytes: a sink takes it all, and tells it where it has the room.
 #[test]
 fn a_sink_without_room_takes_the_text(rt: HostRuntime) -> Result<(), Fail> {
     let text = b"out 1\nc = 1\nend\n".as_slice();
-    for (room, told) in [(16, text), (15, b""), (3, b""), (0, b"")] {
-        let mut source = SureSource::new(COUNTS.to_vec(rt.alloc())?, 7);
-        let mut sink = SureSink::with_room(rt.alloc(), room)?;
-        let said = ask(&rt, &["run"], &mut source, &mut sink)?;
-        assert_eq!(rt; said.status, 0, "room {room}");
-        assert_eq!(rt; sink.taken(), told, "room {room}");
-        let mut source = SureSource::new(COUNTS.to_vec(rt.alloc())?, 7);
-        let mut sink = MemSink::with_room(rt.alloc(), room, 4, Vec::new(rt.alloc()))?;
-        let said = ask(&rt, &["run"], &mut source, &mut sink)?;
-        assert_eq!(rt; said.status, 0, "room {room}, by four");
-        assert_eq!(rt; sink.taken(), told, "room {room}, by four");
+    for (room, wanted) in [(16, text), (15, b""), (3, b""), (0, b"")] {
+        let (status, told) = by_all(&rt, room)?;
+        assert_eq!(rt; status, 0, "room {room}");
+        assert_eq!(rt; told.as_slice(), wanted, "room {room}");
+        let (status, told) = by_fours(&rt, room)?;
+        assert_eq!(rt; status, 0, "room {room}, by four");
+        assert_eq!(rt; told.as_slice(), wanted, "room {room}, by four");
     }
     Ok(())
 }
@@ -44,10 +62,8 @@ fn no_worker_comes_to_the_gate(rt: HostRuntime) -> Result<(), Fail> {
         let gate = Counter {
             calls: AtomicU64::new(0),
         };
-        let mut source = SureSource::new(spawning.to_vec(rt.alloc())?, 9);
-        let mut sink = SureSink::with_room(rt.alloc(), 100)?;
-        let reply = answer_at(&rt, &[command, option], &mut source, &mut sink, &gate)?;
-        assert_eq!(rt; reply.status, 0, "{command}");
+        let status = status_at(&rt, &[command, option], spawning, &gate)?;
+        assert_eq!(rt; status, 0, "{command}");
         assert_eq!(rt; gate.calls.load(Ordering::SeqCst), 0, "{command}");
     }
     Ok(())

@@ -1,4 +1,4 @@
-use super::{answer, ask};
+use super::{answer, ran};
 use cw_io::{SureSink, SureSource};
 use cw_record::Record;
 use std::sync::Wait;
@@ -42,13 +42,11 @@ const GIVEN_UP: &[u8] =
 
 #[test]
 fn only_a_simulation_gives_up_blocks(rt: HostRuntime) -> Result<(), Fail> {
-    let told = b"out 9\nout 5\nc = 5\nend\n".as_slice();
-    for (command, status, text) in [("sim", 0, told), ("run", 5, b"")] {
-        let mut source = SureSource::new(GIVEN_UP.to_vec(rt.alloc())?, 9);
-        let mut sink = SureSink::with_room(rt.alloc(), 100)?;
-        let said = ask(&rt, &[command], &mut source, &mut sink)?;
-        assert_eq!(rt; said.status, status, "{command}");
-        assert_eq!(rt; sink.taken(), text, "{command}");
+    let whole = b"out 9\nout 5\nc = 5\nend\n".as_slice();
+    for (command, status, text) in [("sim", 0, whole), ("run", 5, b"")] {
+        let (said, told) = ran(&rt, &[command], GIVEN_UP)?;
+        assert_eq!(rt; said, status, "{command}");
+        assert_eq!(rt; told.as_slice(), text, "{command}");
     }
     Ok(())
 }

@@ -1,4 +1,4 @@
-use super::{COUNTS, answer, answer_at};
+use super::{COUNTS, answer_at, ran, status_at};
 use cw_io::{Gate, Point, SureSink, SureSource};
 use std::hint;
 use std::sync::Wait;
@@ -21,18 +21,6 @@ const THREE: &[u8] =
 
 const FAULT: &[u8] =
     b"cell c; fn main() { spawn { atomic { c = c + 1; out 1 / 0; } } atomic { c = c + 1; } }";
-
-// The status and the text of a run.
-fn ran<R: AllocGlobal + Threads + Wait + Sync>(
-    rt: &R,
-    words: &[&str],
-    text: &[u8],
-) -> Result<(u8, Vec<u8>), Fail> {
-    let mut source = SureSource::new(text.to_vec(rt.alloc())?, 100);
-    let mut sink = SureSink::with_room(rt.alloc(), 100)?;
-    let reply = answer(rt, words, &mut source, &mut sink)?;
-    Ok((reply.status, sink.taken().to_vec(rt.alloc())?))
-}
 
 #[test]
 fn the_number_of_workers_does_not_show(rt: HostRuntime) -> Result<(), Fail> {
@@ -205,19 +193,6 @@ impl Gate for Meeting {
     }
 }
 
-// The status of these words at this gate.
-fn met<R: AllocGlobal + Threads + Wait + Sync>(
-    rt: &R,
-    words: &[&str],
-    text: &[u8],
-    gate: &Meeting,
-) -> Result<u8, Fail> {
-    let mut source = SureSource::new(text.to_vec(rt.alloc())?, 100);
-    let mut sink = SureSink::with_room(rt.alloc(), 100)?;
-    let reply = answer_at(rt, words, &mut source, &mut sink, gate)?;
-    Ok(reply.status)
-}
-
 // So three workers are three threads.
 #[test]
 fn as_many_threads_as_asked_come_to_the_gate(rt: HostRuntime) -> Result<(), Fail> {
@@ -227,7 +202,7 @@ fn as_many_threads_as_asked_come_to_the_gate(rt: HostRuntime) -> Result<(), Fail
     ];
     for (words, text) in table {
         let gate = Meeting::new();
-        let status = met(&rt, words, text, &gate)?;
+        let status = status_at(&rt, words, text, &gate)?;
         assert_eq!(rt; status, 0);
         assert!(rt; gate.are_met());
     }
