@@ -44,17 +44,39 @@ pub(crate) fn does_all(alloc: Global, kept: &Record) -> Result<bool, OutOfMemory
     )?;
     for place in 0..items.len() {
         let name = *kept.order.list.at(place);
-        let want = play.at(name)?;
-        let back = put_back(alloc, &play, want)?;
+        let want = match play.at(name) {
+            Ok(want) => want,
+            Err(fault) => {
+                drop(play);
+                return Err(fault);
+            }
+        };
+        let back = match put_back(alloc, &play, want) {
+            Ok(back) => back,
+            Err(fault) => {
+                drop(play);
+                return Err(fault);
+            }
+        };
         if !is_item(tree, play.memory(), &back, want, *items.at(place)) {
+            drop(play);
             return Ok(false);
         }
-        if !play.pick(&kept.program, name)? {
+        let picks = match play.pick(&kept.program, name) {
+            Ok(picks) => picks,
+            Err(fault) => {
+                drop(play);
+                return Err(fault);
+            }
+        };
+        if !picks {
+            drop(play);
             return Ok(false);
         }
     }
-    let want = play.at(kept.order.last)?;
-    is_spent(alloc, kept, want)
+    let want = play.at(kept.order.last);
+    drop(play);
+    is_spent(alloc, kept, want?)
 }
 
 /// What the machine puts back where a strand wants to give up its block; nothing where it wants anything else.

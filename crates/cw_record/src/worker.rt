@@ -107,11 +107,29 @@ impl<'a> Worker<'a> {
         let mut worker = Worker::begin(alloc, program, words, limits)?;
         'wants: loop {
             match worker.strand.want() {
-                Want::Fork => worker.fork(alloc)?,
+                Want::Fork => match worker.fork(alloc) {
+                    Ok(_) => {}
+                    Err(fault) => {
+                        drop(worker);
+                        return Err(fault);
+                    }
+                },
                 Want::Sync | Want::Done => match worker.branches.pop() {
                     None => return Ok(worker.finished()),
-                    Some(Branch::Left { fork, right }) => worker.turn(fork, right)?,
-                    Some(Branch::Right { fork, left }) => worker.join(fork, left)?,
+                    Some(Branch::Left { fork, right }) => match worker.turn(fork, right) {
+                        Ok(_) => {}
+                        Err(fault) => {
+                            drop(worker);
+                            return Err(fault);
+                        }
+                    },
+                    Some(Branch::Right { fork, left }) => match worker.join(fork, left) {
+                        Ok(_) => {}
+                        Err(fault) => {
+                            drop(worker);
+                            return Err(fault);
+                        }
+                    },
                 },
                 Want::Fault(kind) => return worker.faulted(kind),
                 Want::Load(_)
@@ -120,8 +138,20 @@ impl<'a> Worker<'a> {
                 | Want::Cancel
                 | Want::Begin
                 | Want::End => {
-                    worker.follow()?;
-                    worker.act(alloc)?;
+                    match worker.follow() {
+                        Ok(_) => {}
+                        Err(fault) => {
+                            drop(worker);
+                            return Err(fault);
+                        }
+                    }
+                    match worker.act(alloc) {
+                        Ok(_) => {}
+                        Err(fault) => {
+                            drop(worker);
+                            return Err(fault);
+                        }
+                    }
                 }
             }
         }
@@ -262,13 +292,20 @@ impl<'a> Worker<'a> {
         ensures end { IfOk result (λ r. r.end
             ≡ ending.Fault (strand_of self.entry.drawing.tree self.entry.drawing.place) kind) }
     {
+        drop(self.memory);
+        drop(self.outputs);
+        drop(self.undo);
+        drop(self.strand);
         let mut drawing = self.drawing;
         let strand = strand_of(&drawing.tree, drawing.place);
         let mut branches = self.branches;
         while let Some(branch) = branches.pop() {
             match branch {
-                Branch::Left { fork, .. } => drawing.starts(fork)?,
-                Branch::Right { .. } => {}
+                Branch::Left { fork, right } => {
+                    drop(right);
+                    drawing.starts(fork)?
+                }
+                Branch::Right { left, .. } => drop(left),
             }
         }
         Ok(Run {

@@ -60,17 +60,18 @@ impl<'a> Driver<'a> {
         requires workers { 0 < workers }
         ensures { IfOk result (λ z. StandsFor z (opened (job_of_task task.entry) workers)) }
     {
-        let memory = first_memory(alloc, task.program.cells.as_slice())?;
-        let core = Core::new(alloc, memory.as_slice(), task.limits)?;
+        let workers = opening(alloc, workers)?;
         let main = Standing::start(alloc, task.program, task.words, task.limits)?;
         let mut bodies = ByNode::new(alloc);
         bodies.put(0, main)?;
+        let memory = first_memory(alloc, task.program.cells.as_slice())?;
+        let core = Core::new(alloc, memory.as_slice(), task.limits)?;
         Ok(Driver {
             task,
             core,
             bodies,
             saved: ByNode::new(alloc),
-            workers: opening(alloc, workers)?,
+            workers,
         })
     }
 
@@ -133,9 +134,24 @@ impl<'a> Driver<'a> {
         self.hint();
         let left = self.bodies.take(fork + 1);
         let mut right = self.bodies.take(fork + 2);
-        self.core.step(Event::Join { fork })?;
+        match self.core.step(Event::Join { fork }) {
+            Ok(reply) => drop(reply),
+            Err(fault) => {
+                drop(left);
+                drop(right);
+                return Err(fault);
+            }
+        }
         if !self.core.is_dying(parent) {
-            right.join(left, self.task.program)?;
+            match right.join(left, self.task.program) {
+                Ok(_) => {}
+                Err(fault) => {
+                    drop(right);
+                    return Err(fault);
+                }
+            }
+        } else {
+            drop(left);
         }
         self.bodies.put(parent, right)?;
         with_run(&mut self.workers, w, Some(parent));
@@ -206,8 +222,16 @@ impl<'a> Driver<'a> {
         let block = self.core.place(strand);
         let saved = self.saved.take(block);
         let mut body = self.bodies.take(strand);
-        self.core.step(Event::Roll { strand })?;
+        match self.core.step(Event::Roll { strand }) {
+            Ok(reply) => drop(reply),
+            Err(fault) => {
+                drop(saved);
+                drop(body);
+                return Err(fault);
+            }
+        }
         body.back(&saved);
+        drop(saved);
         self.bodies.put(strand, body)
     }
 
@@ -320,11 +344,31 @@ impl<'a> Driver<'a> {
     {
         let fork = self.next_node();
         let mut right = self.bodies.take(strand);
-        let left = right.fork(self.task.program)?;
-        let reply = self.core.step(Event::Fork { strand })?;
+        let left = match right.fork(self.task.program) {
+            Ok(left) => left,
+            Err(fault) => {
+                drop(right);
+                return Err(fault);
+            }
+        };
+        let reply = match self.core.step(Event::Fork { strand }) {
+            Ok(reply) => reply,
+            Err(fault) => {
+                drop(left);
+                drop(right);
+                return Err(fault);
+            }
+        };
         self.hint();
         let columns = matches!(reply, Reply::Forked { .. });
-        self.bodies.put(fork + 1, left)?;
+        drop(reply);
+        match self.bodies.put(fork + 1, left) {
+            Ok(_) => {}
+            Err(fault) => {
+                drop(right);
+                return Err(fault);
+            }
+        }
         self.bodies.put(fork + 2, right)?;
         with_fork(&mut self.workers, w, columns, fork)?;
         with_run(&mut self.workers, w, Some(fork + 1));
@@ -402,11 +446,24 @@ pub(crate) fn moved(
 {
     let mut simulation = Driver::opening(alloc, task, workers)?;
     let mut turns = Turns::new(schedule, workers);
-    simulation.runs(&mut turns)?;
+    match simulation.runs(&mut turns) {
+        Ok(_) => {}
+        Err(fault) => {
+            drop(simulation);
+            return Err(fault);
+        }
+    }
     let spent = !simulation.is_over();
     simulation.hint();
+    drop(simulation.bodies);
+    drop(simulation.saved);
+    drop(simulation.workers);
     match simulation.core.close() {
         Ok(closed) => Ok((closed, spent)),
-        Err((_core, error)) => Err(error),
+        Err(refused) => {
+            let (core, error) = refused;
+            drop(core);
+            Err(error)
+        }
     }
 }

@@ -42,13 +42,20 @@ fn put_together(alloc: Global, track: &Track, stop: Option<Stop>) -> Result<Toge
 {
     let bases = bases_of(alloc, track)?;
     let tree = tree_of(alloc, track, &bases)?;
-    let conflicts = conflicts_of(alloc, track, &bases)?;
-    let halt = halt_in(track, &bases, &tree, stop)?;
-    Ok(Together {
-        tree,
-        conflicts,
-        halt,
-    })
+    let conflicts = conflicts_of(alloc, track, &bases);
+    let halt = halt_in(track, &bases, &tree, stop);
+    match (conflicts, halt) {
+        (Ok(conflicts), Ok(halt)) => Ok(Together {
+            tree,
+            conflicts,
+            halt,
+        }),
+        (conflicts, _) => {
+            drop(conflicts);
+            drop(tree);
+            Err(OutOfMemory)
+        }
+    }
 }
 
 impl Shared {

@@ -1,4 +1,4 @@
-ghost use Rattle.std.specs.Prelude.{◌≡◌, ◌≤◌, ◌<◌, ◌∷◌, [], true, false, List, OnOk, IfSome, IfNone};
+ghost use Rattle.std.specs.Prelude.{◌≡◌, ◌≤◌, ◌<◌, ◌∷◌, [], true, false, List, OnOk, IfOk, IfSome, IfNone};
 ghost use Rattle.cw_text.specs.Cursor.{count_of_lexemes};
 ghost use Rattle.cw_text.specs.Lexemes.{rest_of};
 ghost use Rattle.cw_text.specs.Grammar.{Symbol, Values, a_term, act, arg_done, args, brackets, call_done, closing, comparison, expr, index_done, join, lifted, more_args, operand, pending, products, push, read, read_from, some_terms, sums, word_at};
@@ -12,6 +12,7 @@ use crate::letters::Letters;
 use crate::parser::{DEEPEST, Parser, refusal};
 use crate::terminal::{comparison_of, prefix_of, product_of, sum_of};
 use crate::{Expr, Op, Terminal, TextKind, TextRefusal, Word};
+use cw_base::OutOfMemory;
 use std::alloc::Global;
 
 /// An expression that is not too high, and its height.
@@ -167,6 +168,7 @@ impl<'a> Parser<'a> {
         let of = self.operand()?;
         self.depth -= 1;
         if of.height == DEEPEST {
+            drop(of);
             return Err(refusal(TextKind::TooDeep, line));
         }
         Ok(Measured {
@@ -192,9 +194,16 @@ impl<'a> Parser<'a> {
     {
         self.enter()?;
         let inner = self.expr()?;
-        self.expect(close)?;
-        self.depth -= 1;
-        Ok(inner)
+        match self.expect(close) {
+            Ok(_) => {
+                self.depth -= 1;
+                Ok(inner)
+            }
+            Err(fault) => {
+                drop(inner);
+                Err(fault)
+            }
+        }
     }
 
     /// An expression.
@@ -305,6 +314,7 @@ fn indexed(alloc: Global, line: u32, name: Word, at: Measured) -> Result<Measure
         (λ e. read k (a_term (term_of e.expr) ∷ vs)) xs }
 {
     if at.height == DEEPEST {
+        drop(at);
         return Err(refusal(TextKind::TooDeep, line));
     }
     Ok(Measured {
@@ -352,14 +362,25 @@ fn joined(
 {
     let height = left.height.max(right.height) + 1;
     if height > DEEPEST {
+        drop(left);
+        drop(right);
         return Err(refusal(TextKind::TooDeep, line));
     }
+    let left = boxed(alloc, left.expr);
+    let right = boxed(alloc, right.expr)?;
     Ok(Measured {
         expr: Expr::Binary {
             op,
-            left: Box::new(alloc, left.expr)?,
-            right: Box::new(alloc, right.expr)?,
+            left: left?,
+            right,
         },
         height,
     })
+}
+
+/// An expression in a place of its own.
+fn boxed(alloc: Global, expr: Expr) -> Result<Box<Expr>, OutOfMemory>
+    ensures { IfOk result (λ b. b.value ≡ expr) }
+{
+    Ok(Box::new(alloc, expr)?)
 }

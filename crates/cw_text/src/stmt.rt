@@ -86,9 +86,14 @@ impl<'a> Parser<'a> {
             (λ s. stated (statement_of s)) (rest_of (ahead self.old)) (ahead self.new) }
     {
         self.cursor.advance();
-        let value = self.expr()?;
-        self.expect(Terminal::Semicolon)?;
-        Ok(Stmt::Out(value.expr))
+        let value = self.expr()?.expr;
+        match self.expect(Terminal::Semicolon) {
+            Ok(_) => Ok(Stmt::Out(value)),
+            Err(fault) => {
+                drop(value);
+                Err(fault)
+            }
+        }
     }
 
     /// A choice, whose keyword is next.
@@ -141,8 +146,13 @@ impl<'a> Parser<'a> {
     {
         self.cursor.advance();
         let test = self.expr()?.expr;
-        let body = self.block()?;
-        Ok(Stmt::While { test, body })
+        match self.block() {
+            Ok(body) => Ok(Stmt::While { test, body }),
+            Err(fault) => {
+                drop(test);
+                Err(fault)
+            }
+        }
     }
 
     /// An atomic block, whose keyword is next.
@@ -240,8 +250,13 @@ impl<'a> Parser<'a> {
             }
             Token::Terminal(Terminal::SquareOpen) => {
                 let at = self.bracketed(Terminal::SquareClose)?.expr;
-                let value = self.assigned_value()?;
-                Ok(Stmt::AssignAt { name, at, value })
+                match self.assigned_value() {
+                    Ok(value) => Ok(Stmt::AssignAt { name, at, value }),
+                    Err(fault) => {
+                        drop(at);
+                        Err(fault)
+                    }
+                }
             }
             Token::Terminal(Terminal::ParenOpen) => {
                 let args = self.arguments()?.list;

@@ -9,7 +9,7 @@ use Rattle.cw_io.specs.declared.schedule.Schedule.{Schedule}
 use Rattle.cw_words.specs.declared.command.Command.{Command}
 use Rattle.cw_words.specs.declared.command.Command.TheVariants.{Load, Run}
 use Rattle.cw_io.specs.declared.schedule.Schedule.TheVariants.{List as Listed}
-use Rattle.cw_words.specs.Options.{Given, list_below, number_within}
+use Rattle.cw_words.specs.Options.{Given, NumberOption, list_below, number_in, number_within}
 use Rattle.cw_words.specs.Reading.{integers_in, known_in, limits_in, number_asked, sole_in, report_asked, schedule_asked, option_text, transfers_asked, value_in}
 use Rattle.cw_words.specs.Words as words
 use Rattle.cw_words.specs.Words.{load_given, load_options, most_transfers, run_given, run_options, workers_option}
@@ -39,6 +39,21 @@ load_is (Some h) = refl
 pub transfers_are : (g : Option Given) → transfers_asked g ≡ option_and_then (number_within 1 most_transfers) (sole_in g)
 transfers_are None = refl
 transfers_are (Some h) = refl
+
+pub report_is : (g : Option Given) → report_asked g ≡ option_and_then words.report_in (value_in (codes "report") g)
+report_is None = refl
+report_is (Some h) = refl
+
+pub number_is : (o : NumberOption) (g : Option Given) → number_asked o g ≡ option_and_then (number_in o) (value_in o.name g)
+number_is o None = refl
+number_is o (Some h) = refl
+
+pub limits_are : (g : Option Given) → limits_in g ≡
+    option_and_then (λ f. option_and_then (λ n. option_and_then (λ b. option_and_then (λ m. option_map (λ c.
+    record { fuel = f; size = n; aborts = b; strands = m; moves = c })
+    (number_asked words.moves_option g)) (number_asked words.strands_option g)) (number_asked words.aborts_option g)) (number_asked words.size_option g)) (number_asked words.fuel_option g)
+limits_are None = refl
+limits_are (Some h) = refl
 
 -- the schedule by the values that were read of its two options
 pub schedule_read : (workers : ℕ) (g : Option Given) (list seed : Option (Bor (List ℕ))) → option_text (Some list) ≡ value_in (codes "schedule") g → option_text (Some seed) ≡ value_in (codes "seed") g

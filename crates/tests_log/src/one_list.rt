@@ -147,28 +147,41 @@ impl SharedBoard for OneList {
 pub fn read_back<R: Wait>(rt: &R, alloc: Global, value: i64) -> Result<Option<i64>, OutOfMemory> {
     let (board, mut token) = OneList::new(alloc, 2, 3)?;
     if token.goes(3) {
-        board.begin(&mut token)?;
+        if let Err(fault) = board.begin(&mut token) {
+            drop(token);
+            return Err(fault);
+        }
     }
     if token.goes(3) {
-        let _ = board.access(rt, &mut token, 1, Some(value))?;
+        if let Err(fault) = board.access(rt, &mut token, 1, Some(value)) {
+            drop(token);
+            return Err(fault);
+        }
     }
     if token.goes(3) && token.has_block() {
         board.commit(&mut token);
     }
     if !token.goes(3) {
+        drop(token);
         return Ok(None);
     }
-    let Ok(Forked::Inline { token }) = board.fork(rt, token) else {
-        return Ok(None);
+    let mut token = match board.fork(rt, token) {
+        Ok(Forked::Inline { token }) => token,
+        other => {
+            drop(other);
+            return Ok(None);
+        }
     };
-    let mut token = token;
     if token.is_inline() && token.is_done() {
         board.next_branch(&mut token);
     }
     if !token.goes(3) {
+        drop(token);
         return Ok(None);
     }
-    match board.access(rt, &mut token, 1, None)? {
+    let found = board.access(rt, &mut token, 1, None);
+    drop(token);
+    match found? {
         Access::Value(value) => Ok(Some(value)),
         Access::Conflict(_) => Ok(None),
     }

@@ -116,8 +116,20 @@ pub(crate) fn tree_of(alloc: Global, track: &Track, bases: &Bases) -> Result<Tre
     }
     let mut tree = root_log(alloc, track.nodes.as_slice())?;
     for log in track.joined.iter() {
-        let under = bases.number(log.from, log.fork)?;
-        hang_log(alloc, &mut tree, under, log.nodes.as_slice())?;
+        let under = match bases.number(log.from, log.fork) {
+            Ok(under) => under,
+            Err(fault) => {
+                drop(tree);
+                return Err(fault);
+            }
+        };
+        match hang_log(alloc, &mut tree, under, log.nodes.as_slice()) {
+            Ok(_) => {}
+            Err(fault) => {
+                drop(tree);
+                return Err(fault);
+            }
+        }
     }
     Ok(tree)
 }

@@ -56,7 +56,6 @@ impl Shared {
         let Ok(cells) = u32::try_from(init.len()) else {
             return Err(OutOfMemory);
         };
-        let track = Track::new(alloc)?;
         let key = Key {
             first: Seq::from_vec(Vec::from_slice(alloc, init)?),
             columns: limits.strands,
@@ -66,15 +65,22 @@ impl Shared {
         let mut slots = fresh_slots(alloc, init)?;
         let tier = Tier::with_strands(alloc, limits.strands)?;
         slots.push(Slot::Tier(tier))?;
+        let track = Track::new(alloc)?;
         let made = Board::new(alloc, words.as_slice(), slots, &key);
-        let Ok((table, seat)) = made else {
-            return Err(OutOfMemory);
-        };
-        let token = StrandToken {
-            seat,
-            track,
-            stop: None,
-        };
-        Ok((Shared { table, cells }, token))
+        match made {
+            Ok((table, seat)) => {
+                let token = StrandToken {
+                    seat,
+                    track,
+                    stop: None,
+                };
+                Ok((Shared { table, cells }, token))
+            }
+            Err(fault) => {
+                drop(fault);
+                drop(track);
+                Err(OutOfMemory)
+            }
+        }
     }
 }

@@ -59,7 +59,14 @@ fn built(alloc: Global, spent: bool) -> Result<Record, Fail> {
 // The memory and the outputs of the run that finished.
 fn left(alloc: Global) -> Result<(i64, i64, i64), Fail> {
     let record = built(alloc, false)?;
-    match &record.end {
+    let left = left_at(&record.end);
+    drop(record);
+    left
+}
+
+// The cell and the two outputs that an end has.
+fn left_at(end: &RecordEnd) -> Result<(i64, i64, i64), Fail> {
+    match end {
         RecordEnd::Finished { memory, outputs } => match (memory.as_slice(), outputs.as_slice()) {
             ([cell], [first, second]) => Ok((*cell, *first, *second)),
             _ => Err("another number of values".into()),

@@ -279,18 +279,46 @@ fn want_behind(left: Strand, right: Strand, program: &Program) -> Result<Want, F
     requires right { StandsIn program.now.code right }
 {
     let (mut left, mut right) = (left, right);
-    ends(&mut left, program, 1)?;
-    ends(&mut right, program, 2)?;
+    match ends(&mut left, program, 1) {
+        Ok(_) => {}
+        Err(fault) => {
+            drop(left);
+            drop(right);
+            return Err(fault);
+        }
+    }
+    match ends(&mut right, program, 2) {
+        Ok(_) => {}
+        Err(fault) => {
+            drop(left);
+            drop(right);
+            return Err(fault);
+        }
+    }
     right.joined(left);
-    Ok(right.next(program, Given::Nothing)?)
+    let want = right.next(program, Given::Nothing);
+    drop(right);
+    Ok(want?)
 }
 
 // The same where its size is limited so.
 fn want_after_join(alloc: Global, size: u32) -> Result<Want, Fail> {
     let program = program(alloc, &forks())?;
-    let mut right = strand_of(alloc, &program, within(1, size))?;
-    let left = forked(alloc, &mut right, &program)?;
-    want_behind(left, right, &program)
+    let want = want_of(alloc, &program, size);
+    drop(program);
+    want
+}
+
+// What the right strand of a fork of a program wants behind it.
+fn want_of(alloc: Global, program: &Program, size: u32) -> Result<Want, Fail> {
+    let mut right = strand_of(alloc, program, within(1, size))?;
+    match forked(alloc, &mut right, program) {
+        Ok(left) => want_behind(left, right, program),
+        Err(fault) => {
+            drop(right);
+            Err(fault)
+        }
+    }
 }
 
 #[test]

@@ -19,7 +19,7 @@ loop-place-init c =
     (stands_first r c.in_ok-play.play (subst N c.as_slice-names.ensures (subst W c.as_slice-2.ensures c.in_ok-play.ensures.play)), c.in_ok-play.ensures.runs)
 
 pub pick-requires : goal.pick-requires
-pick-requires c = subst (λ m. Runs c.args.kept.now.program m) (sym c.in_ok-want.ensures.machine) c.loop-place.invariant.1
+pick-requires c = subst (λ m. Runs c.args.kept.now.program m) (sym c.in-Ok.ensures.machine) c.loop-place.invariant.1
 
 pub is_item-requires : goal.is_item-requires
 is_item-requires c =
@@ -33,24 +33,24 @@ returns-then-not-is_item c =
     let stands = c.loop-place.invariant.0 in
     let item = c.at-in-loop-place.result.now in
     let there = listed_at r c.loop-place.place c.at-in-loop-place.result.now (all_listed r c.from_vec-items.ensures c.in_ok-items.ensures.items c.as_slice.ensures) c.at-in-loop-place.ensures in
-    let is = c.in_ok-want.ensures.same (job_of_record r) r.order.names stands.machine stands.is in
+    let is = c.in-Ok.ensures.same (job_of_record r) r.order.names stands.machine stands.is in
     let memory : c.memory.result.now ≡ stands.machine.memory = sym (c.memory.ensures (job_of_record r) r.order.names stands.machine is) in
-    let back = c.in_ok-back.ensures (job_of_record r) r.order.names stands.machine is in (
+    let back = c.in-Ok-put_back.ensures (job_of_record r) r.order.names stands.machine is in (
       λ h. absurd (cc h),
-      λ h. absurd (other_want r c.nodes.ensures.numbered c.requires.order c.loop-place.play c.at.new.self c.loop-place.place item there c.at-name.result.now c.at-name.ensures stands c.in_ok-want.want (c.in_ok-want.ensures.want (job_of_record r) r.order.names stands.machine stands.is)
+      λ h. absurd (other_want r c.nodes.ensures.numbered c.requires.order c.loop-place.play c.at.new.self c.loop-place.place item there c.at-name.result.now c.at-name.ensures stands c.in-Ok.want (c.in-Ok.ensures.want (job_of_record r) r.order.names stands.machine stands.is)
           (λ here. let yes = (c.is_item.ensures stands.machine (sym memory) back).1 here in let no = c.if-not-is_item.true in cc) h),
     )
 
-pub returns-then-not-branch : goal.returns-then-not-branch
-returns-then-not-branch c =
+pub returns-then-not-picks : goal.returns-then-not-picks
+returns-then-not-picks c =
     let r = c.args.kept.now in
     let stands = c.loop-place.invariant.0 in
     let item = c.at-in-loop-place.result.now in
     let there = listed_at r c.loop-place.place c.at-in-loop-place.result.now (all_listed r c.from_vec-items.ensures c.in_ok-items.ensures.items c.as_slice.ensures) c.at-in-loop-place.ensures in
-    let is = c.in_ok-want.ensures.same (job_of_record r) r.order.names stands.machine stands.is in (
+    let is = c.in-Ok.ensures.same (job_of_record r) r.order.names stands.machine stands.is in (
       λ h. absurd (cc h),
       λ h. absurd (no_pick r c.nodes.ensures.numbered c.requires.order c.loop-place.play c.pick.new.self c.loop-place.place item there c.at-name.result.now c.at-name.ensures stands
-          ((rw c.if-not-branch.true at c.in_ok-pick.ensures.picks) (job_of_record r) r.order.names stands.machine refl is) h),
+          ((rw c.if-not-picks.true at c.in-Ok-pick.ensures.picks) (job_of_record r) r.order.names stands.machine refl is) h),
     )
 
 pub loop-place-preserved : goal.loop-place-preserved
@@ -59,13 +59,13 @@ loop-place-preserved c =
     let stands = c.loop-place.invariant.0 in
     let item = c.at-in-loop-place.result.now in
     let there = listed_at r c.loop-place.place c.at-in-loop-place.result.now (all_listed r c.from_vec-items.ensures c.in_ok-items.ensures.items c.as_slice.ensures) c.at-in-loop-place.ensures in
-    let is = c.in_ok-want.ensures.same (job_of_record r) r.order.names stands.machine stands.is in
+    let is = c.in-Ok.ensures.same (job_of_record r) r.order.names stands.machine stands.is in
     let memory : c.memory.result.now ≡ stands.machine.memory = sym (c.memory.ensures (job_of_record r) r.order.names stands.machine is) in
-    let back = c.in_ok-back.ensures (job_of_record r) r.order.names stands.machine is in
+    let back = c.in-Ok-put_back.ensures (job_of_record r) r.order.names stands.machine is in
     let here = (c.is_item.ensures stands.machine (sym memory) back).0 c.if-not-is_item.false in (
-      does_item r c.nodes.ensures.numbered c.requires.order c.loop-place.play c.pick.new.self c.loop-place.place item there c.at-name.result.now c.at-name.ensures stands c.in_ok-want.want
-          (c.in_ok-want.ensures.want (job_of_record r) r.order.names stands.machine stands.is) here ((rw c.if-not-branch.false at c.in_ok-pick.ensures.picks) (job_of_record r) r.order.names stands.machine refl is),
-      c.in_ok-pick.ensures.runs,
+      does_item r c.nodes.ensures.numbered c.requires.order c.loop-place.play c.pick.new.self c.loop-place.place item there c.at-name.result.now c.at-name.ensures stands c.in-Ok.want
+          (c.in-Ok.ensures.want (job_of_record r) r.order.names stands.machine stands.is) here ((rw c.if-not-picks.false at c.in-Ok-pick.ensures.picks) (job_of_record r) r.order.names stands.machine refl is),
+      c.in-Ok-pick.ensures.runs,
     )
 
 pub returns : goal.returns
@@ -74,5 +74,5 @@ returns c =
     let stands = c.loop-place.invariant.0 in
     let listed = all_listed r c.from_vec-items.ensures c.in_ok-items.ensures.items c.as_slice.ensures in
     let past : length (all r) ≤ c.loop-place.place = omega (arith, ap length listed, c.len-place-end.ensures) in
-    let ends = all_done r c.nodes.ensures.numbered c.requires.order c.requires.strand c.loop-place.play c.loop-place.place past stands c.in_ok-want-2.want (c.in_ok-want-2.ensures.want (job_of_record r) r.order.names stands.machine stands.is) in
-    IfOk-weaker c.is_spent.result (λ b. IsTrue b ↔ WantsRefused r r.end c.in_ok-want-2.want) (λ b. IsTrue b ↔ ItemsAreDone r) (λ b e. (λ h. ends.0 (e.0 h), λ h. e.1 (ends.1 h))) c.is_spent.ensures
+    let ends = all_done r c.nodes.ensures.numbered c.requires.order c.requires.strand c.loop-place.play c.loop-place.place past stands c.in_ok-want.field-0 (c.in_ok-want.ensures.want (job_of_record r) r.order.names stands.machine stands.is) in
+    IfOk-weaker c.is_spent.result (λ b. IsTrue b ↔ WantsRefused r r.end c.in_ok-want.field-0) (λ b. IsTrue b ↔ ItemsAreDone r) (λ b e. (λ h. ends.0 (e.0 h), λ h. e.1 (ends.1 h))) c.is_spent.ensures

@@ -11,4 +11,4 @@ returns-then-height-gt-DEEPEST c = λ k vs xs.
 pub returns : goal.returns
 returns c = λ k vs xs.
     let low : max (height (term_of c.args.left.expr)) (height (term_of c.args.right.expr)) + 1 ≤ 200 = omega arith in
-    rw (c.in_ok-new.ensures.ok, c.in_ok-new-2.ensures.ok) (read-join c.args.op c.args.line _ _ k vs xs low)
+    rw (c.in_ok-left.ensures, c.in_ok-right.ensures) (read-join c.args.op c.args.line _ _ k vs xs low)

@@ -24,14 +24,14 @@ fork-requires-clause-stands c = c.wants.invariant.1.strand
 pub fork-requires-clause-there : goal.fork-requires-clause-there
 fork-requires-clause-there c = let (w, r) = c.wants.invariant.0 in r.draws.built.there
 
-pub wants-preserved-in-Continue-branch-2 : goal.wants-preserved-in-Continue-branch-2
-wants-preserved-in-Continue-branch-2 c =
-    let e = c.in_ok-fork-in-Fork.ensures in
+pub wants-preserved-in-Ok : goal.wants-preserved-in-Ok
+wants-preserved-in-Ok c =
+    let e = c.in-Ok.ensures in
     ((fork_run c.wants.invariant.0.1 (closes_of _ c.requires.compiled c.requires.words) (accesses_there _ c.requires.compiled) e.keeps (wanted_by c.wants.worker c.want.ensures c.in-Fork.is) e.drawing e.left e.right).0, e.stands c.wants.invariant.1.branches)
 
-pub wants-smaller-in-Continue-branch-2 : goal.wants-smaller-in-Continue-branch-2
-wants-smaller-in-Continue-branch-2 c =
-    let e = c.in_ok-fork-in-Fork.ensures in
+pub wants-smaller-in-Ok : goal.wants-smaller-in-Ok
+wants-smaller-in-Ok c =
+    let e = c.in-Ok.ensures in
     (fork_run c.wants.invariant.0.1 (closes_of _ c.requires.compiled c.requires.words) (accesses_there _ c.requires.compiled) e.keeps (wanted_by c.wants.worker c.want.ensures c.in-Fork.is) e.drawing e.left e.right).1
 
 -- ## The end of a strand
@@ -49,24 +49,24 @@ join-requires-clause-there c = first_fork_there c.wants.invariant.0.1 c.in-Some-
 pub join-requires-clause-stands : goal.join-requires-clause-stands
 join-requires-clause-stands c = c.wants.invariant.1.strand
 
-pub wants-preserved-in-Continue-branch-3 : goal.wants-preserved-in-Continue-branch-3
-wants-preserved-in-Continue-branch-3 c =
-    let e = c.in_ok-turn-in-Some-Left.ensures in
+pub wants-preserved-in-Ok-turn : goal.wants-preserved-in-Ok-turn
+wants-preserved-in-Ok-turn c =
+    let e = c.in-Ok-turn.ensures in
     ((turn_run c.wants.invariant.0.1 (closes_of _ c.requires.compiled c.requires.words) (accesses_there _ c.requires.compiled) c.in-Some-Left.ensures (over_by c.wants.worker c.want.ensures c.in-Sync.is) e.keeps c.in-Some-Left.field-0-is e.drawing e.strand e.branches).0, turn_stands c.wants.worker c.wants.invariant.1 c.in-Some-Left.ensures e.keeps c.in-Some-Left.field-0-is e.strand e.branches)
 
-pub wants-smaller-in-Continue-branch-3 : goal.wants-smaller-in-Continue-branch-3
-wants-smaller-in-Continue-branch-3 c =
-    let e = c.in_ok-turn-in-Some-Left.ensures in
+pub wants-smaller-in-Ok-turn : goal.wants-smaller-in-Ok-turn
+wants-smaller-in-Ok-turn c =
+    let e = c.in-Ok-turn.ensures in
     (turn_run c.wants.invariant.0.1 (closes_of _ c.requires.compiled c.requires.words) (accesses_there _ c.requires.compiled) c.in-Some-Left.ensures (over_by c.wants.worker c.want.ensures c.in-Sync.is) e.keeps c.in-Some-Left.field-0-is e.drawing e.strand e.branches).1
 
-pub wants-preserved-in-Continue-branch-4 : goal.wants-preserved-in-Continue-branch-4
-wants-preserved-in-Continue-branch-4 c =
-    let e = c.in_ok-join-in-Some-Right.ensures in
+pub wants-preserved-in-Ok-join : goal.wants-preserved-in-Ok-join
+wants-preserved-in-Ok-join c =
+    let e = c.in-Ok-join.ensures in
     ((join_run c.wants.invariant.0.1 (closes_of _ c.requires.compiled c.requires.words) (accesses_there _ c.requires.compiled) c.in-Some-Right.ensures (over_by c.wants.worker c.want.ensures c.in-Sync.is) e.keeps c.in-Some-Right.field-0-is e.drawing e.branches e.strand).0, join_stands c.wants.worker c.wants.invariant.1 c.in-Some-Right.ensures e.keeps e.stands e.branches)
 
-pub wants-smaller-in-Continue-branch-4 : goal.wants-smaller-in-Continue-branch-4
-wants-smaller-in-Continue-branch-4 c =
-    let e = c.in_ok-join-in-Some-Right.ensures in
+pub wants-smaller-in-Ok-join : goal.wants-smaller-in-Ok-join
+wants-smaller-in-Ok-join c =
+    let e = c.in-Ok-join.ensures in
     (join_run c.wants.invariant.0.1 (closes_of _ c.requires.compiled c.requires.words) (accesses_there _ c.requires.compiled) c.in-Some-Right.ensures (over_by c.wants.worker c.want.ensures c.in-Sync.is) e.keeps c.in-Some-Right.field-0-is e.drawing e.branches e.strand).1
 
 -- ## A fault
@@ -90,13 +90,13 @@ follow-requires c =
 pub act-requires : goal.act-requires
 act-requires c =
     let (w, r) = c.wants.invariant.0 in
-    let ready = act_ready r (closes_of _ c.requires.compiled c.requires.words) (accesses_there _ c.requires.compiled) c.follow.new.self c.in_ok-follow-in-Load.ensures (answered_by c.wants.worker c.want.ensures c.in-Load.is) c.wants.invariant.1.strand in
+    let ready = act_ready r (closes_of _ c.requires.compiled c.requires.words) (accesses_there _ c.requires.compiled) c.follow.new.self c.in-Ok-follow.ensures (answered_by c.wants.worker c.want.ensures c.in-Load.is) c.wants.invariant.1.strand in
     record { there = ready.there; answered = ready.answered; block = ready.block; stands = ready.stands }
 
 pub wants-preserved : goal.wants-preserved
 wants-preserved c =
-    let e = c.in_ok-act-in-Load.ensures in
-    let follows = c.in_ok-follow-in-Load.ensures in (
+    let e = c.in-Ok-act.ensures in
+    let follows = c.in-Ok-follow.ensures in (
       (act_run c.wants.invariant.0.1 (closes_of _ c.requires.compiled c.requires.words) (accesses_there _ c.requires.compiled) c.follow.new.self c.act.new.self (answered_by c.wants.worker c.want.ensures c.in-Load.is)
           (record { follows = follows; done = e.acts; strand = e.strand })).0,
       act_stands c.wants.worker c.wants.invariant.1 c.follow.new.self c.act.new.self follows e.acts e.stands,
@@ -104,6 +104,6 @@ wants-preserved c =
 
 pub wants-smaller : goal.wants-smaller
 wants-smaller c =
-    let e = c.in_ok-act-in-Load.ensures in
+    let e = c.in-Ok-act.ensures in
     (act_run c.wants.invariant.0.1 (closes_of _ c.requires.compiled c.requires.words) (accesses_there _ c.requires.compiled) c.follow.new.self c.act.new.self (answered_by c.wants.worker c.want.ensures c.in-Load.is)
-    (record { follows = c.in_ok-follow-in-Load.ensures; done = e.acts; strand = e.strand })).1
+    (record { follows = c.in-Ok-follow.ensures; done = e.acts; strand = e.strand })).1

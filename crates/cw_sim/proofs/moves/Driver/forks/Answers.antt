@@ -31,14 +31,14 @@ returns c = λ z may.
     let s = c.args.self.now in
     let new : Driver = record s { core = c.step.new.self; bodies = c.put-2.new.self; workers = c.with_run.new.workers } in
     let at = c.take-right.ensures.thing in
-    let l = c.in_ok-left.left in
+    let l = c.in-Ok.left in
     let r = c.fork.new.self in
-    let by = columns_by s c.args.w c.args.strand z may c.in_ok-reply.reply c.in_ok-reply.ensures.reply in
+    let by = columns_by s c.args.w c.args.strand z may c.in-Ok-step.reply c.in-Ok-step.ensures.reply in
     let columns : c.match-matches.matches ≡ may_fork z.m.core = elim c.match-matches.branch [
       | in-Forked w ↦ w.matches-is ∙ sym (by.0 w.in-Forked.left w.in-Forked.right w.in-Forked.fork w.in-Forked.is)
       | in_default w ↦ w.matches-is ∙ sym (by.1 w.in_default.not-Forked)
     ] in
-    forks_come s c.args.w c.args.strand z may new l r refl c.in_ok-reply.ensures.ok refl c.next_node-fork.result c.next_node-fork.ensures
-    c.take-right.new.self c.put.new.self c.take-right.ensures.takes c.in_ok-put.ensures c.in_ok-put-2.ensures
-    (is_left s c.args.w c.args.strand z may c.take-right.result at l c.in_ok-left.ensures.left) (is_right s c.args.w c.args.strand z may c.take-right.result at r c.in_ok-left.ensures.right) c.in_ok-left.ensures.left_stands c.in_ok-left.ensures.right_stands
+    forks_come s c.args.w c.args.strand z may new l r refl c.in-Ok-step.ensures.ok refl c.next_node-fork.result c.next_node-fork.ensures
+    c.take-right.new.self c.put.new.self c.take-right.ensures.takes c.in-Ok-put.ensures c.in_ok-put.ensures
+    (is_left s c.args.w c.args.strand z may c.take-right.result at l c.in-Ok.ensures.left) (is_right s c.args.w c.args.strand z may c.take-right.result at r c.in-Ok.ensures.right) c.in-Ok.ensures.left_stands c.in-Ok.ensures.right_stands
     c.match-matches.matches columns (workers_of c.with_fork.new.workers.items) c.in_ok-with_fork.ensures c.with_run.ensures

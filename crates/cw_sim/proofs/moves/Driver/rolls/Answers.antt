@@ -22,5 +22,5 @@ pub returns : goal.returns
 returns c =
     on_ok_weaker c.put.result
     (λ put z may. roll_comes c.args.self.now c.args.strand z may c.place-block.result c.place-block.ensures c.take-saved.result c.take-body.result c.take-saved.ensures.thing c.take-body.ensures.thing
-    c.take-saved.new.self c.take-body.new.self c.put.new.self c.step.new.self c.back.new.self c.take-saved.ensures.takes c.take-body.ensures.takes put c.in_ok-step.ensures.ok c.in_ok-step.ensures.stands c.back.ensures.back c.back.ensures.stands)
+    c.take-saved.new.self c.take-body.new.self c.put.new.self c.step.new.self c.back.new.self c.take-saved.ensures.takes c.take-body.ensures.takes put c.in-Ok.ensures.ok c.in-Ok.ensures.stands c.back.ensures.back c.back.ensures.stands)
     c.put.ensures

@@ -22,8 +22,8 @@ loop-log-preserved c =
       (
         front ++ c.in-Some.log.now ∷ [],
         q ∙ (ap (λ r. front ++ r) e ∙ sym (append_assoc front (c.in-Some.log.now ∷ []) c.next.new.self)),
-        tree_more all (own ∷ front) c.in-Some.log.now c.loop-log.tree c.hang_log.new.tree c.in_ok-under.under h (c.in_ok-under.ensures all c.requires)
-            (c.in_ok-hang_log.ensures ∙ ap (λ ns. c.loop-log.tree ++ hung (length c.loop-log.tree) c.in_ok-under.under ns) c.as_slice-in-loop-log.ensures),
+        tree_more all (own ∷ front) c.in-Some.log.now c.loop-log.tree c.hang_log.new.tree c.in-Ok.under h (c.in-Ok.ensures all c.requires)
+            (c.in-Ok-hang_log.ensures ∙ ap (λ ns. c.loop-log.tree ++ hung (length c.loop-log.tree) c.in-Ok.under ns) c.as_slice-in-loop-log.ensures),
       ),
     )
 
