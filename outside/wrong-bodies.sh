@@ -1,0 +1,32 @@
+#!/usr/bin/env bash
+# Tries the wrong bodies under wrong-bodies/: each is an edit of one crate that turns the meaning of a public call, and the proof of that crate
+# must refuse it. The gate tries the few in crates/*/must-fail; this script tries all the others, over the last commit of this checkout.
+# It prints a line for each edit with what refused it, then 'N refused, M not', and ends with status 1 where one was not refused.
+# A crate takes the time of its proof, or less where `rt check` has proved it on this machine, and then about 10 to 100 seconds an edit.
+# Usage: outside/wrong-bodies.sh [CRATE..]; without a crate, all that have wrong bodies.
+set -u
+root=$(realpath "$(dirname "$0")/..")
+if [ $# = 0 ]; then
+  cd "$root/wrong-bodies" || exit 1
+  set -- *
+fi
+for crate; do
+  if ! [ -d "$root/wrong-bodies/$crate" ]; then
+    echo "$crate has no folder in wrong-bodies/" >&2
+    exit 1
+  fi
+done
+folder=$(mktemp -d)
+trap 'rm -rf "$folder"' EXIT
+git clone -q "$root" "$folder/copy" || exit 1
+cd "$folder/copy" || exit 1
+rm -rf crates/*/must-fail
+wanted=0
+for crate; do
+  cp -r "wrong-bodies/$crate" "crates/$crate/must-fail"
+  wanted=$((wanted + $(find "crates/$crate/must-fail" -name '*.edit' | wc -l)))
+done
+rt must-fail "$@" 2>&1 | tee "$folder/said" | sed -n 's/^rt: must-fail //p; /must-fail/!p'
+refused=$(grep -c 'must-fail .*: refused, as it must be' "$folder/said")
+echo "$refused refused, $((wanted - refused)) not"
+[ "$refused" = "$wanted" ]
