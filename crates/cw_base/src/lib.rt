@@ -1,7 +1,7 @@
-//! What all crates share: the answer of a call that met want of memory, the types of lists and texts in public fields, a stack, and one more in a
-//! list that has room.
-//! Stands on nothing.
-//! Contracts see a `Seq` as the list of its elements, a `Stack` as the same with the newest first, and a `Text` as the list of its bytes.
+//! What all crates share: the error of a call that ran out of memory, the types of lists and texts in public fields, a
+//! stack, and a push into a list that has room. Use it wherever a call allocates.
+//! Contracts see a `Seq` as the list of its elements, a `Stack` as the same list with the newest first, and a `Text` as
+//! the list of its bytes.
 #![tactic(auto)]
 
 mod fitting;

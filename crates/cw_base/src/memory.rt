@@ -1,6 +1,6 @@
 use std::alloc::{AllocError, AllocFailed};
 
-/// A call could not get the memory that it needed.
+/// The error of a call that ran out of memory.
 #[derive(Clone, Copy, PartialEq, Eq, Debug)]
 pub struct OutOfMemory;
 

@@ -19,7 +19,7 @@ impl<T> Model for Seq<T> {
 }
 
 impl<T> Seq<T> {
-    /// The empty list, which takes no memory.
+    /// Returns the empty list. Takes no memory.
     pub fn new(alloc: Global) -> Seq<T>
         ensures { result ≡ [] }
     {
@@ -28,7 +28,7 @@ impl<T> Seq<T> {
         }
     }
 
-    /// The list of a vector's elements. Takes no memory.
+    /// Returns the list of the elements of `items`. Takes no memory.
     pub fn from_vec(items: Vec<T>) -> Seq<T>
         ensures { result ≡ items.items }
     {
@@ -47,7 +47,7 @@ impl<T> Seq<T> {
         self.items.as_slice()
     }
 
-    /// The element at a place, counted from 0.
+    /// Returns the element at position `place`, counted from 0.
     pub fn at(&self, place: usize) -> &T
         requires { place < length self.now }
         ensures { slice_get self.now place ≡ Some result.now }
@@ -55,7 +55,7 @@ impl<T> Seq<T> {
         &self.items[place]
     }
 
-    /// Adds an element at the end.
+    /// Adds `item` at the end.
     pub fn push(&mut self, item: T) -> Result<(), OutOfMemory>
     where
         T: Drop,

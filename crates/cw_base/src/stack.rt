@@ -4,7 +4,7 @@ use crate::OutOfMemory;
 use std::alloc::Global;
 use std::marker::Model;
 
-/// A stack, which contracts see as the list of its elements, the newest first.
+/// A stack. Contracts see it as the list of its elements, the newest first.
 #[derive(Drop)]
 pub struct Stack<T> {
     items: Vec<T>,
@@ -48,7 +48,7 @@ impl<T: Drop> Stack<T> {
         self.items.pop()
     }
 
-    /// The newest element.
+    /// Returns the newest element, or `None` if the stack is empty.
     pub fn newest(&self) -> Option<T>
     where
         T: Copy,
@@ -57,7 +57,7 @@ impl<T: Drop> Stack<T> {
         self.items.last().copied()
     }
 
-    /// The same elements once more.
+    /// Returns a copy of the stack.
     pub fn copy(&self) -> Result<Stack<T>, OutOfMemory>
     where
         T: Copy,

@@ -31,7 +31,7 @@ impl Text {
         self.text.as_bytes()
     }
 
-    /// The text that these bytes are, each of which is an ASCII character.
+    /// Returns the text that `bytes` spell. Each byte is an ASCII character.
     pub fn from_ascii(alloc: Global, bytes: &[u8]) -> Result<Text, OutOfMemory>
         requires { All (λ b. b < 128) bytes.now }
         ensures { IfOk result (λ t. t ≡ bytes.now) }
