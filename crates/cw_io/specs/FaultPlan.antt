@@ -1,6 +1,6 @@
 -- Which calls of an object in memory fail: those whose numbers are listed, and no others.
 --
--- Calls are numbered from 1, failed ones included. A number that stands at the last value of a u64 stays there.
+-- Calls are numbered from 1, failed ones included. A number that has reached the last value of a u64 no longer grows.
 use Rattle.std.specs.Prelude.{◌≡◌, ◌↔◌, ℕ, ◌+◌, ◌-◌, ◌^◌, min, List, Contains, Result, IsErr, is_err, if◌then◌else◌}
 
 pub record Plan : Type 0 where
@@ -15,7 +15,7 @@ pub record Plan : Type 0 where
 abbrev pub fresh_plan : List ℕ → Plan
 fresh_plan failing = record { failing = failing; made = 0; failed = 0 }
 
--- the number after this one
+-- the number after n
 abbrev pub next_number : ℕ → ℕ
 next_number n = min (n + 1) (2 ^ 64 - 1)
 
@@ -23,11 +23,11 @@ next_number n = min (n + 1) (2 ^ 64 - 1)
 abbrev pub IsListed : Plan → Type 0
 IsListed p = Contains p.failing (next_number p.made)
 
--- how many calls failed, once this one was made
+-- how many calls have failed after a call with this result
 abbrev pub failed_after : {T E : Type 0} → ℕ → Result T E → ℕ
 failed_after failed result = if is_err result then next_number failed else failed
 
--- One call was made, and it failed exactly where its number is listed.
+-- One call was made. It failed exactly if its number is listed.
 pub record FailsAsListed {T E : Type 0} (old new : Plan) (result : Result T E) : Type 0 where
   pub exactly : IsErr result ↔ IsListed old
   pub same_list : new.failing ≡ old.failing

@@ -1,24 +1,24 @@
--- Sinks in memory. Such a sink takes what it is given. It tells it as long as it took no more bytes in all than it has room for, and from
--- then on nothing.
+-- Sinks in memory. Such a sink takes what it is given. It tells what it took as long as this fits into its room, and
+-- from then on nothing.
 use Rattle.std.specs.Prelude.{◌≡◌, ◌≤◌, ℕ, ◌+◌, min, List, [], ◌++◌, length, take, nat_le, Option, Some, None, IfSome, if◌then◌else◌}
 use Rattle.std.specs.Option.{unwrap_or}
 use Rattle.cw_io.specs.FaultPlan.{Plan}
 
--- The bytes that a sink took, where it tells them, and how many it has room for in all.
+-- The bytes that a sink took, if it tells them, and for how many bytes it has room in all.
 pub record Stock : Type 0 where
   pub written : Option (List ℕ)
   pub room : ℕ
 
--- nothing was taken, with room for so many bytes
+-- nothing was taken yet, and there is room for the given number of bytes
 abbrev pub empty_stock : ℕ → Stock
 empty_stock room = record { written = Some []; room = room }
 
--- what is told within this room, once these bytes were taken too
+-- what is told within the room after bytes were taken too
 abbrev pub told_within : (room : ℕ) → Option (List ℕ) → (bytes : List ℕ) → Option (List ℕ)
 told_within room None bytes = None
 told_within room (Some held) bytes = if nat_le (length held + length bytes) room then Some (held ++ bytes) else None
 
--- the stock with these bytes too
+-- the stock after bytes were taken too
 abbrev pub stock_after : Stock → List ℕ → Stock
 stock_after s bytes = record s { written = told_within s.room s.written bytes }
 
@@ -26,11 +26,11 @@ stock_after s bytes = record s { written = told_within s.room s.written bytes }
 abbrev pub told_bytes : Stock → List ℕ
 told_bytes s = unwrap_or s.written []
 
--- There is room for so many bytes more, where any are told.
+-- If the stock tells its bytes, it has room for n more.
 abbrev pub HasRoomFor : Stock → ℕ → Type 0
 HasRoomFor s n = IfSome s.written (λ held. length held + n ≤ s.room)
 
--- The first n bytes of the piece were taken: all of them, but no more than are taken in one call.
+-- A sink took the first n bytes of the piece: all of them, but at most `most`.
 pub record TakesFront (most : ℕ) (old new : Stock) (piece : List ℕ) (n : ℕ) : Type 0 where
   pub count : n ≡ min most (length piece)
   pub taken : new ≡ stock_after old (take n piece)

@@ -5,7 +5,7 @@ ghost use Rattle.cw_io.specs.Outside.{CountsFaults};
 use crate::Failed;
 use std::marker::Model;
 
-/// Which calls of an object fail, and how many came so far.
+/// Which calls of an object fail, and how many calls there were so far.
 #[derive(Drop)]
 pub struct FaultPlan {
     failing: Vec<u64>,
@@ -32,7 +32,7 @@ impl FaultPlan {
         }
     }
 
-    /// Counts one call, and says whether it fails: where its number is listed.
+    /// Counts one call. Returns `Failed` if the number of the call is listed.
     pub fn call(&mut self) -> Result<(), Failed>
         ensures planned { FailsAsListed self.old self.new result }
         ensures cause { CountsFaults self.old.failed self.new.failed result }

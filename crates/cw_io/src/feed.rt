@@ -3,7 +3,7 @@ ghost use Rattle.cw_io.specs.MemSource.{GivesNext};
 
 use std::marker::Model;
 
-/// Bytes in memory that are given in their order, some in each call.
+/// Bytes in memory that are given in order, at most `most` in each call.
 #[derive(Drop)]
 pub struct Feed {
     bytes: Vec<u8>,
@@ -34,7 +34,7 @@ impl Feed {
         }
     }
 
-    /// Puts the next bytes at the front of the buffer, and answers how many.
+    /// Puts the next bytes at the front of `buf` and returns how many.
     pub fn give(&mut self, buf: &mut [u8]) -> usize
         ensures next { GivesNext self.old self.new buf.old buf.new result }
         ensures end { result ≡ 0 → buf.old ≢ [] → self.old.left ≡ [] }

@@ -1,7 +1,7 @@
 use std::sync::Wait;
 use std::thread::Threads;
 
-/// Where a worker comes by.
+/// A point that a worker passes.
 #[derive(Clone, Copy, PartialEq, Eq, Debug)]
 pub enum Point {
     Steal,
@@ -10,9 +10,9 @@ pub enum Point {
     Commit,
 }
 
-/// A place where tests can hold a worker before it goes on. It has no meaning for what a run gives.
+/// Lets tests hold a worker before it goes on. It does not change what a run gives.
 pub trait Gate: Sync {
-    /// Returns once the worker may go on.
+    /// Returns once `worker` may go on.
     fn at<R: Threads + Wait + Sync>(&self, rt: &R, worker: u32, point: Point);
 }
 

@@ -22,16 +22,16 @@ impl Model for Lcg {
 }
 
 impl Lcg {
-    /// Begins with this state, which is not drawn itself.
+    /// Returns the generator that begins with `state`, which is not drawn itself.
     pub fn new(state: u64) -> Lcg
         ensures { result ≡ state }
     {
         Lcg { state }
     }
 
-    /// The state becomes state * 6364136223846793005 + 1442695040888963407 modulo 2^64, and its top 32 bits are drawn.
-    /// The generator and its constants: Donald E. Knuth, The Art of Computer Programming, volume 2, Seminumerical
-    /// Algorithms, third edition, 1997, and his MMIX.
+    /// Draws the next number. The state becomes state * 6364136223846793005 + 1442695040888963407 modulo 2^64, and its
+    /// top 32 bits are drawn. The generator and its constants: Donald E. Knuth, The Art of Computer Programming, volume
+    /// 2, Seminumerical Algorithms, third edition, 1997, and his MMIX.
     pub fn draw(&mut self) -> u32
         ensures state { self.new ≡ next_state self.old }
         ensures top { result ≡ drawn self.new }

@@ -1,9 +1,9 @@
-//! The outside as the product sees it: where bytes come from, where they go, where a worker may be held, and which workers a
-//! simulation is told to move, listed or drawn.
-//! Stands on `cw_base`.
-//! Contracts cite `specs/Outside.antt`: what a source gives, what a sink takes, when either may fail. Those of the sources
-//! and sinks in memory cite `specs/MemSource.antt`, `specs/MemSink.antt` and, for the calls that fail, `specs/FaultPlan.antt`;
-//! those of the generator cite `specs/Lcg.antt`.
+//! The outside as the program sees it: where bytes come from, where they go, where a test may hold a worker, and which
+//! workers a simulation moves first, listed or drawn. Use it to read a source, to write to a sink, and for both in
+//! memory, with calls that fail.
+//! Contracts cite `specs/Outside.antt` (what a source gives, what a sink takes, when either may fail). Those of sources
+//! and sinks in memory cite `specs/MemSource.antt`, `specs/MemSink.antt` and `specs/FaultPlan.antt` (the calls that
+//! fail), those of the generator `specs/Lcg.antt`.
 #![tactic(auto)]
 
 ghost use Rattle.cw_io.specs.Lcg.{FirstDraws};
@@ -34,7 +34,7 @@ pub use write_sink::WriteSink;
 #[cfg(test)]
 mod tests;
 
-/// First draws, worked out.
+/// The first draws, worked out.
 pub fn worked_draws()
     ensures { FirstDraws }
 {}

@@ -10,8 +10,7 @@ use cw_base::OutOfMemory;
 use std::alloc::Global;
 use std::marker::Model;
 
-/// A sink in memory that fails in the calls it was told to fail in, and in no others. It tells its bytes as long as it took no
-/// more than it has room for.
+/// A sink in memory. The calls that its plan lists fail, and no others. It tells its bytes as long as they fit into its room.
 #[derive(Drop)]
 pub struct MemSink {
     store: Store,
@@ -31,8 +30,8 @@ impl Model for MemSink {
 }
 
 impl MemSink {
-    /// Takes its memory here: it has room for so many bytes in all, and takes at most `most` a call. The calls whose
-    /// numbers are in `failing` fail, counted from 1, failed ones included.
+    /// Returns a sink with room for `room` bytes in all, which takes at most `most` bytes a call. The calls whose
+    /// numbers are in `failing` fail. They are counted from 1, failed ones included. All memory is taken here.
     pub fn with_room(
         alloc: Global,
         room: usize,
@@ -51,7 +50,7 @@ impl MemSink {
         })
     }
 
-    /// The bytes that it tells: none once it took more than it has room for.
+    /// The bytes that the sink tells: none once it took more than it has room for.
     pub fn taken(&self) -> &[u8]
         ensures { result.now ≡ told_bytes self.now.stock }
     {
@@ -72,7 +71,7 @@ impl Sink for MemSink {
         ensures same_most { self.new.most ≡ self.old.most }
         ensures same { OnErr result (self.new.stock ≡ self.old.stock) }
 
-        // As of every sink.
+        // As for every sink.
         ensures cause { CountsFaults self.old.plan.failed self.new.plan.failed result }
         ensures within { IfOk result (λ n. n ≤ length piece.now) }
         ensures taken { IfOk result (λ n. Appends self.old.stock.written self.new.stock.written (take n piece.now)) }
@@ -87,7 +86,7 @@ impl Sink for MemSink {
     }
 }
 
-/// A sink in memory that takes every piece, and never fails. It tells its bytes as long as it took no more than it has room for.
+/// A sink in memory that takes every piece and never fails. It tells its bytes as long as they fit into its room.
 #[derive(Drop)]
 pub struct SureSink {
     store: Store,
@@ -102,7 +101,7 @@ impl Model for SureSink {
 }
 
 impl SureSink {
-    /// Takes its memory here: it has room for so many bytes in all.
+    /// Returns a sink with room for `room` bytes in all. All memory is taken here.
     pub fn with_room(alloc: Global, room: usize) -> Result<SureSink, OutOfMemory>
         ensures { IfOk result (λ s. s ≡ empty_stock room) }
     {
@@ -111,7 +110,7 @@ impl SureSink {
         })
     }
 
-    /// The bytes that it tells: none once it took more than it has room for.
+    /// The bytes that the sink tells: none once it took more than it has room for.
     pub fn taken(&self) -> &[u8]
         ensures { result.now ≡ told_bytes self.now }
     {
@@ -130,7 +129,7 @@ impl Sink for SureSink {
         ensures whole { result ≡ Ok (length piece.now) }
         ensures stock { self.new ≡ stock_after self.old piece.now }
 
-        // As of every sink.
+        // As for every sink.
         ensures cause { CountsFaults 0 0 result }
         ensures within { IfOk result (λ n. n ≤ length piece.now) }
         ensures taken { IfOk result (λ n. Appends self.old.written self.new.written (take n piece.now)) }

@@ -8,7 +8,7 @@ use crate::feed::Feed;
 use crate::{Failed, Source};
 use std::marker::Model;
 
-/// A source in memory that fails in the calls it was told to fail in, and in no others.
+/// A source in memory. The calls that its plan lists fail, and no others.
 #[derive(Drop)]
 pub struct MemSource {
     feed: Feed,
@@ -25,8 +25,8 @@ impl Model for MemSource {
 }
 
 impl MemSource {
-    /// Gives at most `most` bytes a call. The calls whose numbers are in `failing` fail, counted from 1, failed ones
-    /// included.
+    /// Returns a source that gives at most `most` of `bytes` a call. The calls whose numbers are in `failing` fail.
+    /// They are counted from 1, failed ones included.
     pub fn new(bytes: Vec<u8>, most: usize, failing: Vec<u64>) -> MemSource
         requires { 1 ≤ most }
         ensures supply { result.supply ≡ record { left = bytes.items; most = most } }
@@ -54,7 +54,7 @@ impl Source for MemSource {
         ensures same { OnErr result (self.new.supply ≡ self.old.supply) }
         ensures ended { self.new.ends ≡ ends_after self.old.ends result }
 
-        // As of every source.
+        // As for every source.
         ensures cause { CountsFaults self.old.plan.failed self.new.plan.failed result }
         ensures ends { CountsEnds self.old.ends self.new.ends result }
         ensures within { IfOk result (λ n. n ≤ length buf.old) }
@@ -90,7 +90,7 @@ impl Model for SureSource {
 }
 
 impl SureSource {
-    /// Gives at most `most` bytes a call.
+    /// Returns a source that gives at most `most` of `bytes` a call.
     pub fn new(bytes: Vec<u8>, most: usize) -> SureSource
         requires { 1 ≤ most }
         ensures supply { result.supply ≡ record { left = bytes.items; most = most } }
@@ -114,7 +114,7 @@ impl Source for SureSource {
         ensures next { IsOkAnd result (GivesNext self.old.supply self.new.supply buf.old buf.new) }
         ensures ended { self.new.ends ≡ ends_after self.old.ends result }
 
-        // As of every source.
+        // As for every source.
         ensures cause { CountsFaults 0 0 result }
         ensures ends { CountsEnds self.old.ends self.new.ends result }
         ensures within { IfOk result (λ n. n ≤ length buf.old) }

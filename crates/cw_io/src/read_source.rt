@@ -3,8 +3,7 @@ ghost use Rattle.std.specs.Prelude.{◌≡◌};
 use crate::{Failed, Source};
 use std::io::Read;
 
-/// A reader as a source. What it tells, the source tells, and each of its errors is a fault, that of an interrupted call
-/// too.
+/// A reader as a source. The source tells what the reader tells. Each error of the reader is a fault, also that of an interrupted call.
 #[derive(Drop)]
 pub struct ReadSource<R> {
     reader: R,

@@ -2,10 +2,10 @@ use cw_base::Seq;
 use std::fmt;
 use std::fmt::{Debug, Formatter, Write};
 
-/// Which workers move first in a simulation, in order. Behind them workers move in turn from 0, round and round.
+/// Which workers move first in a simulation, in order. After them the workers move in turn from 0, round and round.
 #[derive(Drop)]
 pub enum Schedule {
-    /// These workers.
+    /// The listed workers.
     List(Seq<u32>),
     /// 100,000 workers: each is the next draw of an `Lcg` that begins with this seed, modulo the number of workers.
     Seeded(u64),

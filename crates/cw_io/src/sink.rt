@@ -5,18 +5,18 @@ use crate::Failed;
 
 /// Where bytes go.
 pub trait Sink {
-    /// The bytes that it took, where the sink tells them.
+    /// The bytes that the sink took, if it tells them.
     ghost written: { Self → Option (List ℕ) };
 
-    /// It goes on telling for so many bytes more.
+    /// The sink goes on telling for the given number of bytes more.
     ghost tells_for: { Self → ℕ → Type 0 };
 
     /// A count that rises with each write that fails.
     ghost faults: { Self → ℕ };
 
-    /// Takes a front of the piece, and answers how many bytes. Nothing is taken only of an empty piece: else the write
-    /// failed. After `Failed` nothing was taken. A sink that told may fall silent at a failure, and behind the bytes for which
-    /// it goes on telling.
+    /// Takes a front of `piece` and returns how many bytes. It returns 0 only for an empty piece: otherwise the write
+    /// failed. After `Failed` nothing was taken. A sink that told its bytes may fall silent at a failure, and after the
+    /// bytes for which it goes on telling.
     fn write(&mut self, piece: &[u8]) -> Result<usize, Failed>
         ensures cause { CountsFaults (faults self.old) (faults self.new) result }
         ensures within { IfOk result (λ n. n ≤ length piece.now) }
@@ -26,8 +26,8 @@ pub trait Sink {
         ensures err { OnErr result (Appends (written self.old) (written self.new) []) };
 }
 
-/// Writes the whole text, in as many turns as the sink needs. It ends, since each turn writes a byte at least, and takes no
-/// memory. The first write that fails ends it, and the sink then holds a front of the text.
+/// Writes the whole `text`, in as many calls as the sink needs. It ends, since each call writes at least one byte. It
+/// takes no memory. It stops at the first write that fails, and the sink then holds a front of the text.
 pub fn write_all<K: Sink>(sink: &mut K, text: &[u8]) -> Result<(), Failed>
     ensures cause { CountsFaults (K.faults sink.old) (K.faults sink.new) result }
     ensures ok { OnOk result (Appends (K.written sink.old) (K.written sink.new) text.now) }

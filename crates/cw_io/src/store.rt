@@ -5,7 +5,7 @@ use cw_base::OutOfMemory;
 use std::alloc::Global;
 use std::marker::Model;
 
-/// The bytes that a sink in memory took, until they were more than it has room for.
+/// The bytes that a sink in memory took, as long as they fit into its room.
 #[derive(Drop)]
 pub struct Store {
     told: Option<Vec<u8>>,
@@ -25,7 +25,7 @@ impl Model for Store {
 }
 
 impl Store {
-    /// Takes the memory for as many bytes as it has room for.
+    /// Allocates room for `room` bytes.
     pub fn with_room(alloc: Global, room: usize) -> Result<Store, OutOfMemory>
         ensures { IfOk result (λ s. s ≡ empty_stock room) }
     {
@@ -35,7 +35,7 @@ impl Store {
         })
     }
 
-    /// Takes the whole piece.
+    /// Takes the whole piece. If it does not fit into the room, the store tells nothing from then on.
     pub fn take(&mut self, piece: &[u8])
         ensures { self.new ≡ stock_after self.old piece.now }
     {
@@ -49,7 +49,7 @@ impl Store {
         }
     }
 
-    /// The bytes that it tells.
+    /// The bytes that the store tells.
     pub fn told(&self) -> &[u8]
         ensures { result.now ≡ told_bytes self.now }
     {

@@ -6,7 +6,7 @@ use std::io::{BufWriter, ErrorKind, Read, Write};
 use std::process::Abort;
 use std::test::Fail;
 
-/// Reads into a buffer of three bytes, once for each answer that is wanted: these bytes, or `None` for a fault.
+/// Reads into a buffer of three bytes, once for each item of `wanted`: the bytes of that read, or `None` for a fault.
 fn expect_reads<S: Source>(rt: &impl Abort, source: &mut S, wanted: &[Option<&[u8]>]) {
     for want in wanted {
         let mut buf = [0u8; 3];
@@ -37,7 +37,7 @@ fn sources_in_memory_give_their_bytes(rt: HostRuntime) -> Result<(), Fail> {
     Ok(())
 }
 
-/// What a sink that never fails tells, once all these texts were written.
+/// What a sink that never fails tells after all of `texts` were written.
 fn told_by_sure(alloc: Global, room: usize, texts: &[&[u8]]) -> Result<Vec<u8>, Fail> {
     let mut sink = SureSink::with_room(alloc, room)?;
     for text in texts {
@@ -46,7 +46,7 @@ fn told_by_sure(alloc: Global, room: usize, texts: &[&[u8]]) -> Result<Vec<u8>, 
     Ok(sink.taken().to_vec(alloc)?)
 }
 
-/// Which of these texts a sink takes whole that takes four bytes a call and fails in these calls, and what it then tells.
+/// Which of `texts` a sink takes whole, and what it then tells. It takes four bytes a call, and the calls in `failing` fail.
 fn told_by_faulty(
     alloc: Global,
     room: usize,
@@ -133,7 +133,7 @@ fn readers_are_sources(rt: HostRuntime) {
     expect_reads(&rt, &mut ragged, &[None, Some(b"a"), Some(b""), Some(b"b")]);
 }
 
-/// A writer that takes at most two bytes a call, and cannot flush more than it has room for.
+/// A writer that takes at most two bytes a call, and fails to flush if it took more than `room`.
 #[derive(Drop)]
 struct Pipe {
     taken: usize,

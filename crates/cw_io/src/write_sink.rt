@@ -5,10 +5,11 @@ use crate::{Failed, Sink};
 use std::io::Write;
 use std::snapshot::Snapshot;
 
-/// A writer as a sink. Each of its errors is a fault, that of an interrupted call too, and so is a write that takes nothing
-/// of a piece that is not empty. Each call flushes what it wrote, so that no fault comes to light after the last call.
+/// A writer as a sink. Each of its errors is a fault, also that of an interrupted call. A write that takes nothing of a
+/// piece that is not empty is a fault too. Each call flushes what it wrote, so that no fault comes to light after the
+/// last call.
 ///
-/// A flush may fail after bytes were taken. Nobody knows then how many of them came through, so that call answers
+/// A flush may fail after bytes were taken. Nobody knows then how many of them came through. That call returns
 /// `Failed`, and from then on the sink tells nothing.
 #[derive(Drop)]
 pub struct WriteSink<W: Write> {
@@ -39,7 +40,7 @@ impl<W: Write> WriteSink<W> {
 impl<W: Write> Sink for WriteSink<W> {
     ghost written = { λ s. told_since s.is_told (W.contents s.first.value) (W.contents s.writer) };
 
-    // Only a flush that fails makes it silent.
+    // Only a failed flush makes the sink fall silent.
     ghost tells_for = { λ _ _. Unit {0} };
 
     ghost faults = { λ s. s.faults };
