@@ -1,4 +1,4 @@
--- Whether a `cancel` stands in a tree.
+-- Whether a tree contains a `cancel`.
 use Rattle.std.specs.Prelude.{Bool, true, false, ◌||◌, List, [], ◌∷◌}
 use Rattle.cw_text.specs.Syntax.{Statement, choose, repeat, atomic, spawn, cancel, Block, empty, first, Declaration, cell, func}
 
@@ -15,7 +15,7 @@ abbrev mutual
   block_has_cancel empty = false
   block_has_cancel (first s b) = statement_has_cancel s || block_has_cancel b
 
--- in a function, whether that is called or not
+-- whether a function contains a `cancel`, also one that is never called
 abbrev pub has_cancel : List Declaration → Bool
 has_cancel [] = false
 has_cancel (cell n l len i ∷ ds) = has_cancel ds

@@ -6,7 +6,7 @@ use Rattle.cw_text.specs.declared.cursor.Cursor.{Cursor}
 use Rattle.cw_text.specs.Front.{lexeme_of}
 use Rattle.cw_text.specs.Lexemes.{Lexemes, end_on, comes, lexemes_from, keywords_of}
 
--- a token on its line, and what comes behind it
+-- a token on its line, and the tokens behind it
 abbrev pub before : Token → ℕ → Lexemes → Lexemes
 before token.End line xs = end_on line
 before t line xs = comes (lexeme_of t) line xs

@@ -1,4 +1,4 @@
--- What a text was found to begin with.
+-- What the scanner found at the front of a text, in the words of `Lexemes`.
 use Rattle.cw_text.specs.declared.cursor.Token.{Token}
 use Rattle.cw_text.specs.declared.cursor.Token.TheVariants as token
 use Rattle.cw_text.specs.declared.scan.Front.{Front}

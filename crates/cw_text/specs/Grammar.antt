@@ -1,10 +1,9 @@
--- Which tokens are a program, and where tokens that are none go wrong first.
+-- Which tokens are a program, and where tokens that are no program go wrong first.
 --
--- Tokens are read one by one. What may still come is a list of symbols of the grammar, the nearest first: a token
--- takes the nearest symbol that it may begin, and nothing may stand for the symbols before that one. A token that
--- the nearest symbol does not allow is the first fault. What has been read is a list of values, the newest first;
--- the symbol `act` makes a tree of the newest ones. `expansion` is the grammar: what may come in place of a symbol
--- once a token was read.
+-- Tokens are read one by one. What may still come is a list of symbols of the grammar, the nearest first. A token takes
+-- the nearest symbol that it may begin, if each symbol before that one may be empty. A token that the nearest symbol
+-- does not allow is the first fault. What has been read is a list of values, the newest first. The symbol `act` makes a
+-- tree of the newest ones. `expansion` is the grammar: the symbols that replace a symbol once a token was read.
 use Rattle.std.specs.Prelude.{ℕ, zero, suc, ◌+◌, Bool, List, [], ◌∷◌, ◌++◌, Option, Some, None, Result, Ok, Err, if◌then◌else◌, nat_lt, ℤ, pos, neg_ℤ}
 use Rattle.cw_text.specs.declared.ast.Op.{Op}
 use Rattle.cw_text.specs.declared.ast.Op.TheVariants as op
@@ -38,7 +37,7 @@ pub data Symbol : Type 0 where
   items cell_size size cell_init init negated params more_params : Symbol
   block stmts assignment otherwise : Symbol
   expr operand products sums comparison args more_args : Symbol
-  -- what may follow a name in an expression; the line is that of the name
+  -- what may follow a name in an expression, with the line of the name
   brackets : ℕ → Symbol
   word : Symbol
   exactly : Terminal → Symbol
@@ -46,12 +45,12 @@ pub data Symbol : Type 0 where
   closing : Terminal → Symbol
   -- makes a tree of the newest values
   act : (Values → Values) → Symbol
-  -- the operand before was that of an operator, which stands on this line
+  -- the end of the operand of this unary operator, which is on this line
   lifted : Op → ℕ → Symbol
-  -- the expression before is not too high; the line is that of its operator, or of the name of an element or a call
+  -- the end of an expression, where its height is checked; the line is that of its operator, or of the name of its element or call
   read_from : ℕ → Symbol
 
--- a token begins these symbols; or none of them is there; or the token may not stand here
+-- a token begins these symbols, or none of them is there, or the token is not allowed here
 pub data Next : Type 0 where
   take : List Symbol → Next
   skip : Next
@@ -86,7 +85,7 @@ abbrev pub func_done : Values → Values
 func_done (a_block b ∷ some_words ps ∷ a_word w ∷ declared ds ∷ vs) = declared (ds ++ func w.name w.line ps b ∷ []) ∷ vs
 func_done vs = vs
 
--- one more statement of the block that is open
+-- adds a statement to the block that is open
 abbrev pub stated : Statement → Values → Values
 stated s (a_block b ∷ vs) = a_block (with_statement b s) ∷ vs
 stated s vs = vs
@@ -170,17 +169,17 @@ same_terminal a b = bytes_eq (spelling a) (spelling b)
 abbrev pub word_at : List ℕ → ℕ → Word
 word_at n l = record { name = n; line = l }
 
--- a bad token is refused as what it is, and another one as unexpected
+-- a bad token is refused as what it is, every other token as unexpected
 abbrev pub why : Token → TextKind
 why (bad k) = k
 why t = Unexpected
 
--- the fault of the next token, where it may not stand
+-- the fault of the next token, which is not allowed here
 abbrev pub fault_at : Lexemes → TextFault
 fault_at (end_on l) = record { kind = Unexpected; line = l }
 fault_at (comes t l xs) = record { kind = why t; line = l }
 
--- that terminal, and nothing else
+-- takes the terminal a, and nothing else
 abbrev pub only : Terminal → Terminal → Next
 only a b = if same_terminal a b then take [] else refuse Unexpected
 
@@ -210,7 +209,7 @@ comparison_of m.Greater = Some op.Gt
 comparison_of m.GreaterEq = Some op.Ge
 comparison_of a = None
 
--- an operator between two operands, the symbols of its right side, and what may follow
+-- an operator between two operands: the symbols of its right side, and those that may follow
 abbrev pub infix_by : Option Op → (right following : List Symbol) → ℕ → Next
 infix_by None right following l = skip
 infix_by (Some o) right following l = take (operand ∷ right ++ act (join o) ∷ read_from l ∷ following)
@@ -223,7 +222,7 @@ prefix_by (Some o) k l = take (operand ∷ lifted o l ∷ k)
 abbrev pub rest_of_expr : List Symbol
 rest_of_expr = products ∷ sums ∷ comparison ∷ []
 
--- how an operand begins, with what follows it
+-- how an operand begins, with the symbols that follow it
 abbrev pub operand_by : List Symbol → Token → ℕ → Next
 operand_by k (a_number n) l = take (act (push (a_term (number (pos n)))) ∷ k)
 operand_by k (a_name n) l = take (act (push (a_term (name (word_at n l)))) ∷ brackets l ∷ k)
@@ -244,7 +243,7 @@ expansion items end l = take []
 expansion items t l = refuse (why t)
 expansion cell_size (terminal m.SquareOpen) l = take (size ∷ closing m.SquareClose ∷ [])
 expansion cell_size t l = skip
--- an array has elements
+-- an array has at least one element
 expansion size (a_number zero) l = refuse BadNumber
 expansion size (a_number (suc n)) l = take (act (with_size (suc n)) ∷ [])
 expansion size t l = refuse (why t)
@@ -272,7 +271,7 @@ expansion stmts (terminal m.Sync) l = take (exactly m.Semicolon ∷ act sync_don
 expansion stmts (terminal m.Cancel) l = take (act (push (a_line l)) ∷ exactly m.Semicolon ∷ act cancel_done ∷ stmts ∷ [])
 expansion stmts (terminal m.Return) l = take (act (push (a_line l)) ∷ expr ∷ exactly m.Semicolon ∷ act return_done ∷ stmts ∷ [])
 expansion stmts t l = skip
--- without one the block that was pushed stays, which is empty
+-- without an `else` the empty block that was pushed stays
 expansion otherwise (terminal m.Else) l = take (act without_newest ∷ block ∷ [])
 expansion otherwise t l = skip
 expansion assignment (terminal m.Assign) l = take (expr ∷ exactly m.Semicolon ∷ act assign_done ∷ [])
@@ -300,7 +299,7 @@ expansion (read_from k) t l = skip
 
 -- ## Reading
 
--- how many brackets and operators of one operand are open
+-- how many brackets and unary operators are open
 abbrev pub pending : List Symbol → ℕ
 pending [] = 0
 pending (closing a ∷ k) = pending k + 1
@@ -313,17 +312,17 @@ text_fault k l = Err (record { kind = k; line = l })
 abbrev pub ReadingState : Type 0
 ReadingState = List Symbol × Values
 
--- no more than 200 open
+-- refuses more than 200 open brackets and unary operators
 abbrev pub opened : List Symbol → Values → ℕ → Result ReadingState TextFault
 opened k vs l = if nat_lt 200 (pending k) then text_fault TooDeep l else Ok (k, vs)
 
--- what a symbol says of a token; rest is what the symbols after it say
+-- what a symbol makes of a token; `rest` is what the symbols after it make of it
 abbrev pub go_on : Next → List Symbol → Values → ℕ → Result ReadingState TextFault → Result ReadingState TextFault
 go_on (take ss) k vs l rest = opened (ss ++ k) vs l
 go_on skip k vs l rest = rest
 go_on (refuse why) k vs l rest = text_fault why l
 
--- One token. An expression's height is looked at as soon as a token shows that it is over.
+-- Feeds one token. The height of an expression is checked as soon as a token shows that the expression is over.
 abbrev pub feed : List Symbol → Values → Token → ℕ → Result ReadingState TextFault
 feed [] vs t l = text_fault (why t) l
 feed (act f ∷ k) vs t l = feed k (f vs) t l
@@ -335,7 +334,7 @@ abbrev pub then_read : Result ReadingState TextFault → (List Symbol → Values
 then_read (Ok s) go = go s.0 s.1
 then_read (Err e) go = Err e
 
--- all tokens of a text
+-- reads all tokens of a text
 abbrev pub read : List Symbol → Values → Lexemes → Result Values TextFault
 read k vs (end_on l) = then_read (feed k vs end l) (λ k' vs'. Ok vs')
 read k vs (comes t l xs) = then_read (feed k vs t l) (λ k' vs'. read k' vs' xs)
@@ -345,6 +344,6 @@ program_in (Ok (declared ds ∷ vs)) = Ok ds
 program_in (Ok vs) = Ok []
 program_in (Err e) = Err e
 
--- the program that the tokens spell, or the first fault
+-- the program that the tokens spell, or their first fault
 abbrev pub program_of : Lexemes → Result (List Declaration) TextFault
 program_of xs = program_in (read (items ∷ []) (declared [] ∷ []) xs)

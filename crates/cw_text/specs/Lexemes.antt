@@ -25,7 +25,7 @@ abbrev pub rest_of : Lexemes → Lexemes
 rest_of (end_on line) = end_on line
 rest_of (comes t line xs) = xs
 
--- what a text begins with, and how many bytes it takes: a gap or a token
+-- what a text begins with, a gap or a token, and how many bytes it takes
 pub data Front : Type 0 where
   gap : ℕ → Front
   found : Token → ℕ → Front
@@ -39,7 +39,7 @@ is_word c = is_letter c || is_ascii_digit c
 abbrev pub is_blank : ℕ → Bool
 is_blank c = c == 32 || c == 9 || c == 13 || c == 10
 
--- how a word or a sign is spelled
+-- how a keyword or a sign is spelled
 abbrev pub spelling : Terminal → List ℕ
 spelling m.Cell = codes "cell"
 spelling m.Fn = codes "fn"
@@ -75,24 +75,24 @@ spelling m.LessEq = codes "<="
 spelling m.Greater = codes ">"
 spelling m.GreaterEq = codes ">="
 
--- the words that are no names in language 1
+-- the keywords of language 1
 abbrev pub keywords : List Terminal
 keywords = m.Cell ∷ m.Fn ∷ m.Let ∷ m.Out ∷ m.If ∷ m.Else ∷ m.While ∷ m.Atomic ∷ m.Spawn ∷ m.Sync ∷ m.Return ∷ []
 
--- language 2 has one more
+-- language 2 has one more keyword
 abbrev pub keywords_of : (language : ℕ) → List Terminal
 keywords_of language = if language == 2 then m.Cancel ∷ keywords else keywords
 
--- the longer signs stand before those that begin them
+-- A sign comes before those that begin it
 abbrev pub signs : List Terminal
 signs = m.EqEq ∷ m.BangEq ∷ m.LessEq ∷ m.GreaterEq ∷ m.BraceOpen ∷ m.BraceClose ∷ m.ParenOpen ∷ m.ParenClose ∷ m.SquareOpen ∷ m.SquareClose ∷ m.Comma ∷ m.Semicolon ∷ m.Assign ∷ m.Plus ∷ m.Minus ∷ m.Star ∷ m.Slash ∷ m.Percent ∷ m.Bang ∷ m.Less ∷ m.Greater ∷ []
 
--- the keyword, or else a name
+-- the keyword that the text is, otherwise a name
 abbrev pub word_token : List Terminal → List ℕ → Token
 word_token [] text = name text
 word_token (k ∷ ks) text = if bytes_eq (spelling k) text then terminal k else word_token ks text
 
--- the first sign of the list with which the text begins
+-- the first sign of the list that the text begins with
 abbrev pub sign_front : List Terminal → List ℕ → Front
 sign_front [] text = found (bad BadChar) 1
 sign_front (s ∷ ss) text = if starts_with nat_eq text (spelling s) then found (terminal s) (length (spelling s)) else sign_front ss text
@@ -104,7 +104,7 @@ abbrev pub begins_by : (ℕ → Bool) → List ℕ → Bool
 begins_by p [] = false
 begins_by p (c ∷ cs) = p c
 
--- a number over the greatest i64, or followed at once by a letter, is none
+-- A number over the greatest i64 is bad, and so is one that a letter follows at once
 abbrev pub number_token : (digits rest : List ℕ) → Token
 number_token ds rest = if begins_by is_letter rest || nat_le (2 ^ 63) (value_of_digits ds) then bad BadNumber else number (value_of_digits ds)
 
@@ -132,7 +132,7 @@ abbrev pub begun_by : Front → ℕ → Lexemes → Lexemes
 begun_by (gap n) line xs = xs
 begun_by (found t n) line xs = comes t line xs
 
--- the lexemes of a text, whose first bytes, so many, belong to what came before
+-- the tokens of a text whose first bytes, as many as `taken`, belong to the token before
 abbrev pub lexemes_from : (words : List Terminal) (line taken : ℕ) → List ℕ → Lexemes
 lexemes_from ks line taken [] = end_on line
 lexemes_from ks line (suc n) (c ∷ cs) = lexemes_from ks (line_after c line) n cs

@@ -12,13 +12,13 @@ use Rattle.cw_text.specs.Cursor.{tokens_left, count_of_lexemes}
 use Rattle.cw_text.specs.Syntax.{Declaration, declaration_of, statement_of}
 use Rattle.cw_text.specs.Grammar.{Symbol, Values, declared, items, opened, pending, read, stated, stmts, then_read}
 
--- An answer is the language that these tokens name, or their fault.
+-- A result is the language that the tokens name, or their fault.
 abbrev pub IsLanguage : Result ℕ TextRefusal → Result ℕ TextFault → Type 0
 IsLanguage (Ok n) named = named ≡ Ok n
 IsLanguage (Err (Text f)) named = named ≡ Err f
 IsLanguage (Err OutOfMemory) named = ⊥
 
--- An answer is what these tokens were read as, unless memory ran out.
+-- A result is what the tokens were read as, unless memory ran out.
 abbrev pub ReadsItems : Result (Vec Item Global) TextRefusal → Result (List Declaration) TextFault → Type 0
 ReadsItems (Ok list) read = read ≡ Ok (map declaration_of list.items)
 ReadsItems (Err (Text f)) read = read ≡ Err f
@@ -28,43 +28,43 @@ ReadsItems (Err OutOfMemory) read = Unit {0}
 abbrev pub ahead : Parser → Lexemes
 ahead p = tokens_left p.cursor
 
--- The next token was taken, and these symbols may come behind it.
+-- The next token was taken, and the symbols k may come behind it.
 abbrev pub taken : List Symbol → Values → ℕ → Lexemes → Result Values TextFault
 taken k vs line left = then_read (opened k vs line) (λ k' vs'. read k' vs' (rest_of left))
 
--- The next token begins this symbol, and these symbols may come behind it.
+-- The next token begins the symbol s, and the symbols `behind` may come behind it.
 abbrev pub Begins : Parser → Symbol → List Symbol → Type 0
 Begins p s behind =
     (count_of_lexemes (rest_of (ahead p)) < count_of_lexemes (ahead p))
     × ((k : List Symbol) (vs : Values) → read (s ∷ k) vs (ahead p) ≡ taken (behind ++ k) vs p.cursor.line (ahead p))
 
--- The next token does not begin this symbol, for which nothing may stand.
+-- The next token does not begin the symbol s, which may be empty.
 abbrev pub Skips : Parser → Symbol → Type 0
 Skips p s = (k : List Symbol) (vs : Values) → read (s ∷ k) vs (ahead p) ≡ read k vs (ahead p)
 
--- A reading ends in this refusal. Of want of memory nothing is said.
+-- The reading ends in this refusal. If memory ran out, nothing is said.
 abbrev pub Fails : TextRefusal → Result Values TextFault → Type 0
 Fails (Text f) reading = reading ≡ Err f
 Fails OutOfMemory reading = Unit {0}
 
--- With this answer a reading goes on, from the tokens that are left, as is said of the answer; or it fails.
+-- Either the reading goes on from the tokens that are left, as `behind` says of the result, or it fails.
 abbrev pub GoesOn : {T : Type 0} → Result T TextRefusal → Result Values TextFault → (T → Lexemes → Result Values TextFault) → Lexemes → Type 0
 GoesOn (Ok x) reading behind left = reading ≡ behind x left
 GoesOn (Err e) reading behind left = Fails e reading
 
--- The answer was read for these symbols and made these values, whatever symbols, with so many open, and values are
--- behind them.
+-- The result was read for the symbols and made these values. This holds whatever symbols (with `depth` of them open)
+-- and whatever values are behind them.
 abbrev pub Parses : {T : Type 0} → Result T TextRefusal → (depth : ℕ) → List Symbol → (T → Values → Values) → (old new : Lexemes) → Type 0
 Parses result depth symbols values old new =
     (k : List Symbol) (vs : Values) → pending k ≡ depth →
     GoesOn result (read (symbols ++ k) vs old) (λ x. read k (values x vs)) new
 
--- Behind a statement others may come, and behind none the block goes on.
+-- Behind a statement another may come. Without one the block goes on to its end.
 abbrev pub statement_read : List Symbol → Values → Option Stmt → Lexemes → Result Values TextFault
 statement_read k vs (Some s) = read (stmts ∷ k) (stated (statement_of s) vs)
 statement_read k vs None = read k vs
 
--- Behind an item others may come, and the text ends where there is none.
+-- Behind an item another may come. Without one the text ends.
 abbrev pub item_read : List Symbol → Values → List Declaration → Option Item → Lexemes → Result Values TextFault
 item_read k vs ds (Some i) = read (items ∷ k) (declared (ds ++ declaration_of i ∷ []) ∷ vs)
 item_read k vs ds None = λ _. Ok (declared ds ∷ vs)

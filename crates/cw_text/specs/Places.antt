@@ -4,8 +4,8 @@ use Rattle.cw_text.specs.declared.terminal.Terminal.{Terminal}
 use Rattle.cw_text.specs.Lexemes.{Token, Lexemes, end_on, comes, gap, found, front}
 use Rattle.cw_text.specs.Text.{line_of}
 
--- From this place on, gaps and tokens follow each other up to the end. Each is the front of what is left of the text,
--- and each token and the end stand on the line of their place.
+-- From a place on, gaps and tokens follow each other up to the end. Each is the front of what is left of the text. Each
+-- token, and the end, has the line of its place.
 pub data Follow (words : List Terminal) (text : List ℕ) : ℕ → Lexemes → Type 0 where
   over : Follow words text (length text) (end_on (line_of (length text) text))
   past : {place n : ℕ} {xs : Lexemes} → place < length text → front words (drop place text) ≡ gap n → Follow words text (place + n) xs → Follow words text place xs

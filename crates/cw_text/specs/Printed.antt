@@ -13,12 +13,12 @@ use Rattle.cw_text.specs.Lexemes.{Token, Lexemes, end_on, comes, name as a_name,
 abbrev pub Placed : Type 0
 Placed = Token × ℕ
 
--- these tokens, and others behind them
+-- the tokens ps, and the tokens xs behind them
 abbrev pub tokens_before : List Placed → Lexemes → Lexemes
 tokens_before [] xs = xs
 tokens_before (p ∷ ps) xs = comes p.0 p.1 (tokens_before ps xs)
 
--- A name, a `cancel` and a `return` have their lines in the tree. Every other token is put on line 1.
+-- The tree has the lines of its names, of `cancel` and of `return`. Every other token is put on line 1.
 abbrev pub name_on_line : List ℕ → ℕ → List Placed
 name_on_line n l = (a_name n, l) ∷ []
 
@@ -49,7 +49,7 @@ terminal_of op.Le = m.LessEq
 terminal_of op.Gt = m.Greater
 terminal_of op.Ge = m.GreaterEq
 
--- how tightly an operator binds: a comparison 0, a sum 1, a product 2, an operator of one operand 3
+-- how tightly an operator binds: a comparison 0, a sum 1, a product 2, a unary operator 3
 abbrev pub tightness : Op → ℕ
 tightness op.Add = 1
 tightness op.Sub = 1
@@ -78,7 +78,7 @@ abbrev pub in_squares : List Placed → List Placed
 in_squares ps = sign m.SquareOpen ++ ps ++ sign m.SquareClose
 
 abbrev mutual
-  -- an expression where so much tightness is wanted
+  -- an expression from which the tightness n is wanted
   pub term_tokens : ℕ → Term → List Placed
   term_tokens n (number z) = number_tokens z
   term_tokens n (name w) = word_tokens w
@@ -124,7 +124,7 @@ abbrev mutual
   statements_tokens empty = []
   statements_tokens (first s b) = statement_tokens s ++ statements_tokens b
 
-  -- without statements it is not written
+  -- an `else` without statements is left out
   pub else_tokens : Block → List Placed
   else_tokens empty = []
   else_tokens (first s b) = sign m.Else ++ in_braces (statement_tokens s ++ statements_tokens b)
@@ -134,7 +134,7 @@ abbrev pub size_tokens : ℕ → List Placed
 size_tokens zero = []
 size_tokens (suc n) = in_squares (number_tokens (pos (suc n)))
 
--- 0 is not written
+-- an initial value 0 is left out
 abbrev pub init_tokens : ℤ → List Placed
 init_tokens (pos zero) = []
 init_tokens z = sign m.Assign ++ number_tokens z
@@ -151,7 +151,7 @@ declaration_tokens (func n l ps b) = sign m.Fn ++ name_on_line n l ++ in_parens 
 abbrev pub tokens : List Declaration → List Placed
 tokens ds = flat_map declaration_tokens ds
 
--- Language 1 is not written.
+-- Language 1 is not printed.
 abbrev pub heading_tokens : (language : ℕ) → List Placed
 heading_tokens language = if language == 2 then name_on_line (codes "language") 1 ++ (a_number 2, 1) ∷ sign m.Semicolon else []
 
@@ -161,7 +161,7 @@ printed ds = tokens_before (tokens ds) (end_on 1)
 
 -- ## What can be read
 
--- Numbers are those of a text, and each operator has as many operands as it takes.
+-- Each number can be a number of a text, and each operator has as many operands as it takes.
 abbrev mutual
   pub IsWellFormed : Term → Type 0
   IsWellFormed (number (pos n)) = n < 2 ^ 63
@@ -176,7 +176,7 @@ abbrev mutual
   AreWellFormed none = Unit {0}
   AreWellFormed (more e es) = IsWellFormed e × AreWellFormed es
 
--- how many brackets and operators of one operand are open at most at one place of an expression's tokens
+-- the most brackets and unary operators that are open at one place of an expression's tokens
 abbrev mutual
   pub most_open : ℕ → Term → ℕ
   most_open n (number z) = 0
@@ -190,19 +190,19 @@ abbrev mutual
   most_open_of_all none = 0
   most_open_of_all (more e es) = max (most_open 0 e) (most_open_of_all es)
 
--- an expression whose tokens can be read inside so many brackets
+-- an expression whose tokens can be read inside `around` open brackets
 pub record IsReadableTerm (around : ℕ) (e : Term) : Type 0 where
   pub formed : IsWellFormed e
   pub low : height e ≤ 200
   pub shallow : most_open 0 e + around ≤ 200
 
--- Arguments have their bracket around them, and their call has no height where it is a statement.
+-- The bracket of the arguments is among those around them. A call has no height of its own if it is a statement.
 pub record AreReadableTerms (around : ℕ) (es : Terms) : Type 0 where
   pub formed : AreWellFormed es
   pub low : height_of_all es ≤ 200
   pub shallow : most_open_of_all es + around ≤ 200
 
--- a statement, and the statements of a block, inside so many brackets
+-- a statement and the statements of a block, inside `around` open brackets
 abbrev mutual
   pub IsReadableStatement : (around : ℕ) → Statement → Type 0
   IsReadableStatement n (declare w e) = IsReadableTerm n e
@@ -235,7 +235,7 @@ HasSmallNumbers (end_on l) = Unit {0}
 HasSmallNumbers (comes (a_number n) l xs) = (n < 2 ^ 63) × HasSmallNumbers xs
 HasSmallNumbers (comes t l xs) = HasSmallNumbers xs
 
--- the same tokens, where those whose lines a tree does not have stand on line 1
+-- the same tokens, with line 1 for those whose lines a tree does not have
 abbrev pub only_tree_lines : Lexemes → Lexemes
 only_tree_lines (end_on l) = end_on 1
 only_tree_lines (comes (a_name n) l xs) = comes (a_name n) l (only_tree_lines xs)

@@ -1,4 +1,4 @@
--- A worked tree, and the text that it is printed as: brackets stand where the tree needs them, and nowhere else.
+-- A worked tree and the text that it is printed as. Brackets are written only if the tree needs them.
 use Rattle.std.specs.Prelude.{◌≡◌, List, [], ◌∷◌, codes, pos, negsuc}
 use Rattle.cw_text.specs.Syntax.{Term, name, number, at, call, none, more, unary, binary, declare, assign, assign_at, run, out, choose, repeat, atomic, spawn, sync, return, empty, first, Declaration, cell, func}
 use Rattle.cw_text.specs.Lexemes.{keywords, lexemes}

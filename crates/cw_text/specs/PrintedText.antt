@@ -8,7 +8,7 @@ use Rattle.cw_text.specs.Lexemes.{Token, name as a_name, number as a_number, ter
 use Rattle.cw_text.specs.Printed.{Placed, heading_tokens, tokens}
 use Rattle.cw_text.specs.Syntax.{Source}
 
--- the bytes of a token; a tree has no other ones
+-- the bytes of a token; a tree has no bad tokens and no end
 abbrev pub spelled : Token → List ℕ
 spelled (a_name n) = n
 spelled (a_number n) = decimal n
@@ -33,18 +33,18 @@ source_tokens s = heading_tokens s.language ++ tokens s.items
 abbrev pub printed_text : Source → List ℕ
 printed_text s = text_of (source_tokens s)
 
--- a text with the bytes of these tokens behind it
+-- the text, with the bytes of the tokens behind it
 abbrev pub with_tokens : List ℕ → List Placed → List ℕ
 with_tokens text [] = text
 with_tokens text (p ∷ ps) = with_tokens (text ++ (spelled p.0 ++ blank_behind p.0 ∷ [])) ps
 
 -- ## What can be read
 
--- letters, digits and `_`, no digit first, and none of these keywords
+-- letters, digits and `_`, no digit first, and none of the keywords
 abbrev pub IsName : (words : List Terminal) → List ℕ → Type 0
 IsName words n = (begins_by is_letter n ≡ true) × (list_all is_word n ≡ true) × (word_token words n ≡ a_name n)
 
--- a token that its bytes spell, under these keywords; of them only `cancel` may be no keyword
+-- the token is read from its own bytes, with these keywords; `cancel` is the only terminal that may be no keyword
 abbrev pub IsSpellable : (words : List Terminal) → Token → Type 0
 IsSpellable words (a_name n) = IsName words n
 IsSpellable words (a_number n) = n < 2 ^ 63

@@ -31,21 +31,21 @@ mutual
   pub data Statement : Type 0 where
     declare : Word → Term → Statement
     assign : Word → Term → Statement
-    -- to an element of an array: its index, then its value
+    -- assigns to an element of an array: its index, then its value
     assign_at : Word → Term → Term → Statement
-    -- a call, whose value is dropped
+    -- a call whose value is dropped
     run : Word → Terms → Statement
     out : Term → Statement
-    -- what is done where the test holds, and what is done else
+    -- does `then_done` if the test holds, otherwise `else_done`
     choose : Term → (then_done else_done : Block) → Statement
-    -- as long as the test holds
+    -- goes on as long as the test holds
     repeat : Term → Block → Statement
     atomic : Block → Statement
     spawn : Block → Statement
     sync : Statement
-    -- the innermost atomic block is given up; its keyword stands on this line
+    -- gives up the innermost atomic block, with the line of the keyword
     cancel : ℕ → Statement
-    -- the end of a function with this value; its keyword stands on this line
+    -- ends the function with this value, with the line of the keyword
     return : ℕ → Term → Statement
 
   pub data Block : Type 0 where
@@ -56,7 +56,7 @@ pub data Declaration : Type 0 where
   cell : (name : List ℕ) (line len : ℕ) (init : ℤ) → Declaration
   func : (name : List ℕ) (line : ℕ) (params : List Word) (body : Block) → Declaration
 
--- one more at the end
+-- adds an expression at the end
 abbrev pub with_term : Terms → Term → Terms
 with_term none e = more e none
 with_term (more x es) e = more x (with_term es e)
@@ -65,7 +65,7 @@ abbrev pub with_statement : Block → Statement → Block
 with_statement empty s = first s empty
 with_statement (first x b) s = first x (with_statement b s)
 
--- A number, a name and a call without arguments have height 1, and every other form one more than its highest part.
+-- A number, a name and a call without arguments have height 1. Every other form is one higher than its highest part.
 abbrev mutual
   pub height : Term → ℕ
   height (number n) = 1
@@ -80,7 +80,7 @@ abbrev mutual
   height_of_all none = 0
   height_of_all (more e es) = max (height e) (height_of_all es)
 
--- what stands in memory, seen as a tree
+-- what lies in memory, seen as a tree
 abbrev mutual
   pub term_of : Expr → Term
   term_of (Number n) = number n
@@ -130,7 +130,7 @@ declaration_of (Func n l ps b) = func n l ps.items (block_of b.items)
 abbrev pub tree_of : Ast → List Declaration
 tree_of a = map declaration_of a.items.items
 
--- what a whole text says: its language, and its declarations
+-- what a whole text says: its language and its declarations
 pub record Source : Type 0 where
   pub language : ℕ
   pub items : List Declaration

@@ -12,32 +12,32 @@ use Rattle.cw_text.specs.Syntax.{Declaration, Source, source_of}
 use Rattle.cw_text.specs.Lexemes.{Lexemes, comes, name as a_name, number as a_number, terminal, keywords, keywords_of, lexemes, rest_of}
 use Rattle.cw_text.specs.Grammar.{program_of, text_fault, fault_at}
 
--- the line of a place: 1 and the number of newlines before it
+-- the line of a place: 1 plus the number of newlines before it
 abbrev pub line_of : (place : ℕ) (text : List ℕ) → ℕ
 line_of place text = count_by (λ c. c == 10) (take place text) + 1
 
 -- ## The language
 
--- Only where it is the very first token, the name `language` begins a line that says in which language the text is.
+-- The name `language` begins the heading, which names the language of the text, but only as the very first token.
 abbrev pub is_headed : Lexemes → Bool
 is_headed (comes (a_name n) l xs) = bytes_eq n (codes "language")
 is_headed xs = false
 
--- the end of that line
+-- the end of the heading
 abbrev pub line_ended : (language : ℕ) → Lexemes → Result ℕ TextFault
 line_ended n (comes (terminal m.Semicolon) l xs) = Ok n
 line_ended n xs = Err (fault_at xs)
 
--- its number, from 1 to the newest that is read
+-- the number of the language, from 1 to the newest that is read
 abbrev pub numbered : (newest : ℕ) → Lexemes → Result ℕ TextFault
 numbered newest (comes (a_number n) l xs) = if nat_le 1 n && nat_le n newest then line_ended n xs else text_fault Unexpected l
 numbered newest xs = Err (fault_at xs)
 
--- A text without that line is of language 1.
+-- A text without a heading is of language 1.
 abbrev pub language_of : (newest : ℕ) → Lexemes → Result ℕ TextFault
 language_of newest xs = if is_headed xs then numbered newest (rest_of xs) else Ok 1
 
--- what comes behind that line
+-- what comes behind the heading
 abbrev pub items_of : Lexemes → Lexemes
 items_of xs = if is_headed xs then rest_of (rest_of (rest_of xs)) else xs
 
@@ -45,15 +45,15 @@ abbrev pub with_language : (language : ℕ) → Result (List Declaration) TextFa
 with_language n (Ok ds) = Ok (record { language = n; items = ds })
 with_language n (Err f) = Err f
 
--- the source that a text spells in this language, whose words are keywords
+-- the source that a text spells in this language, with the keywords of the language
 abbrev pub source_in : Result ℕ TextFault → List ℕ → Result Source TextFault
 source_in (Ok n) text = with_language n (program_of (items_of (lexemes (keywords_of n) text)))
 source_in (Err f) text = Err f
 
 -- ## The text
 
--- The source that a text of at most so many bytes spells, in a language up to the newest, or the text's first fault:
--- its length comes first, then its characters, then its language, then its tokens.
+-- The source that a text of at most `most` bytes spells, in a language up to `newest`, or the text's first fault. Its
+-- length comes first, then its characters, then its language, then its tokens.
 abbrev pub reading : (newest most : ℕ) → List ℕ → Result Source TextFault
 reading newest most text =
     if nat_lt most (length text) then text_fault TooLong 0
@@ -64,7 +64,7 @@ reading newest most text =
 abbrev pub program : (newest : ℕ) → List ℕ → Result Source TextFault
 program newest text = reading newest 1048576 text
 
--- An answer is this reading, unless memory ran out.
+-- A result is this reading, unless memory ran out.
 abbrev pub Reads : Result Ast TextRefusal → Result Source TextFault → Type 0
 Reads (Ok a) reading = reading ≡ Ok (source_of a)
 Reads (Err (refusal.Text f)) reading = reading ≡ Err f

@@ -51,10 +51,10 @@ abbrev pub tokens_without_lines : Lexemes → Lexemes
 tokens_without_lines (end_on l) = end_on 1
 tokens_without_lines (comes t l xs) = comes t 1 (tokens_without_lines xs)
 
--- This tree was read, but for its lines.
+-- The tree ds was read, except for its lines.
 abbrev pub IsReadAs : Result (List Declaration) TextFault → List Declaration → Type 0
 IsReadAs read ds = (es : List Declaration) × (read ≡ Ok es) × (tree_without_lines es ≡ tree_without_lines ds)
 
--- This source was read, but for its lines.
+-- The source s was read, except for its lines.
 abbrev pub IsSourceReadAs : Result Source TextFault → Source → Type 0
 IsSourceReadAs read s = (t : Source) × (read ≡ Ok t) × (t.language ≡ s.language) × (tree_without_lines t.items ≡ tree_without_lines s.items)

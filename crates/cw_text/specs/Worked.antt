@@ -82,12 +82,12 @@ Functions =
     × (read (codes "fn main() { out f(1)\n(2); }") ≡ refused Unexpected 2)
     × (read (codes "fn main() { out f[1]\n(2); }") ≡ refused Unexpected 2)
 
--- n ones, with signs between them
+-- n times `1+`, and then `1`
 abbrev pub ones : ℕ → List ℕ
 ones n = flat_map {X = ℕ} (λ x. codes "1+") (replicate n 32) ++ codes "1"
 
--- An expression of height 200 passes, and one of height 201 is refused at its operator, or at its name. The index and
--- the value of an assignment have each their own height.
+-- An expression of height 200 passes. One of height 201 is refused at its operator or at its name. The index and the
+-- value of an assignment each have their own height.
 abbrev pub Heights : Type 0
 Heights =
     (read (codes "fn main() { out\n" ++ (ones 199 ++ codes ";@")) ≡ refused BadChar 2)
@@ -97,7 +97,7 @@ Heights =
     × (read (codes "fn main() { out\na\n[" ++ (ones 199 ++ codes "];")) ≡ refused TooDeep 2)
     × (read (codes "fn main() { a[" ++ (ones 199 ++ (codes "] = " ++ (ones 199 ++ codes ";@")))) ≡ refused BadChar 1)
 
--- so many atomic blocks, each in the one before, and the text that they begin with
+-- n atomic blocks, each in the one before, and the text that they begin with
 abbrev pub nested : ℕ → Block
 nested zero = empty
 nested (suc n) = first (atomic (nested n)) empty
@@ -113,7 +113,7 @@ Brackets =
     × (read (codes "fn main() {" ++ (nested_begin 199 ++ codes "atomic\n{")) ≡ refused TooDeep 2)
     × (read (codes "fn main() {" ++ (nested_begin 199 ++ replicate 200 125)) ≡ Ok (func (codes "main") 1 [] (nested 199) ∷ []))
 
--- so many elements, each the index of the one before
+-- n elements, each the index of the one before
 abbrev pub elements : ℕ → Term
 elements zero = number (pos 1)
 elements (suc n) = at (word (codes "a")) (elements n)
@@ -121,8 +121,7 @@ elements (suc n) = at (word (codes "a")) (elements n)
 abbrev pub elements_begin : ℕ → List ℕ
 elements_begin n = flat_map {X = ℕ} (λ x. codes "a[") (replicate n 32)
 
--- A call is one higher than its highest argument, and has no height where it is a statement. Its bracket is one of the
--- 200 too.
+-- A call is one higher than its highest argument, and has no height if it is a statement. Its bracket is one of the 200 too.
 abbrev pub Calls : Type 0
 Calls =
     (read (codes "fn main() { out f(1, " ++ (ones 198 ++ codes ", 1);@")) ≡ refused BadChar 1)
@@ -136,7 +135,7 @@ Indexes =
     (read (codes "fn main() { out " ++ (elements_begin 199 ++ codes "a\n[")) ≡ refused TooDeep 2)
     × (read (codes "fn main() { out " ++ (elements_begin 199 ++ (codes "1" ++ (replicate 199 93 ++ codes "; }")))) ≡ Ok (func (codes "main") 1 [] (first (out (elements 199)) empty) ∷ []))
 
--- So are the braces of a choice and a loop. A test has its height as every other expression.
+-- The braces of a choice and a loop are among the 200 too. A test has its height, as every other expression.
 abbrev pub Branches : Type 0
 Branches =
     (read (codes "fn main() {" ++ (nested_begin 199 ++ codes "if 1\n{")) ≡ refused TooDeep 2)
@@ -164,7 +163,7 @@ refused_source k l = Err (record { kind = k; line = l })
 abbrev pub read_in : (newest : ℕ) → List ℕ → Result Source TextFault
 read_in newest text = source_in (language_of newest (lexemes keywords text)) text
 
--- main alone, with this body
+-- main alone, with the body b
 abbrev pub main_of : ℕ → Block → Source
 main_of n b = record { language = n; items = func (codes "main") 1 [] b ∷ [] }
 

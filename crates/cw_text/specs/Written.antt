@@ -1,8 +1,8 @@
 -- The grammar as a reader knows it: which tokens spell which tree, one case for each alternative.
 --
--- `IsExpr around e xs ys` says that the tokens from xs up to ys spell the expression e, where so many brackets and
--- operators of one operand are open around it; so do the others, of what their names say. No more than 200 are ever
--- open, and no expression is higher than 200.
+-- `IsExpr around e xs ys` says that the tokens from xs up to ys spell the expression e, inside `around` open brackets
+-- and unary operators. The others say the same of what their names tell. No more than 200 are ever open, and no
+-- expression is higher than 200.
 use Rattle.std.specs.Prelude.{ℕ, suc, ◌+◌, ◌<◌, ◌≤◌, ◌≡◌, false, List, [], ◌∷◌, codes, Some, ℤ, pos, neg_ℤ}
 use Rattle.cw_text.specs.declared.ast.Op.{Op}
 use Rattle.cw_text.specs.declared.ast.Word.{Word}
@@ -143,7 +143,7 @@ pub data IsProgram : List Declaration → Lexemes → Type 0 where
   over : {l : ℕ} → IsProgram [] (end_on l)
   items : {d : Declaration} {ds : List Declaration} {xs ys : Lexemes} → IsItem d xs ys → IsProgram ds ys → IsProgram (d ∷ ds) xs
 
--- [ "language" NUMBER ";" ] before the items, of a text in this language, up to the newest that is read
+-- [ "language" NUMBER ";" ] before the items, for a text in this language, up to the newest that is read
 pub data IsHeading (newest : ℕ) : (language : ℕ) → Lexemes → Type 0 where
   no_heading : {xs : Lexemes} → is_headed xs ≡ false → IsHeading newest 1 xs
   a_heading : {n i j l : ℕ} {xs : Lexemes} → 1 ≤ n → n ≤ newest → IsHeading newest n (comes (a_name (codes "language")) i (comes (a_number n) j (comes (terminal m.Semicolon) l xs)))

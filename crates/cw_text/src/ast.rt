@@ -3,21 +3,21 @@ use cw_base::Text;
 /// The syntax tree of a program.
 #[derive(Drop)]
 pub struct Ast {
-    /// 1, or 2 where its text began with `language 2;`.
+    /// 2 if the text began with `language 2;`, otherwise 1.
     pub language: u32,
     pub items: Vec<Item>,
 }
 
 #[derive(Drop)]
 pub enum Item {
-    /// A cell: its name with the name's line, its number of elements, or 0 for a plain cell, and its initial value.
+    /// A cell: its name and the name's line, its number of elements (0 for a plain cell), and its initial value.
     Cell {
         name: Text,
         line: u32,
         len: u64,
         init: i64,
     },
-    /// A function: its name with the name's line, its parameters, its body.
+    /// A function: its name and the name's line, its parameters, its body.
     Func {
         name: Text,
         line: u32,
@@ -49,13 +49,13 @@ pub enum Stmt {
         at: Expr,
         value: Expr,
     },
-    /// A call, whose value is dropped.
+    /// A call whose value is dropped.
     Call {
         name: Word,
         args: Vec<Expr>,
     },
     Out(Expr),
-    /// A choice: what is done where its test holds, and what is done else.
+    /// A choice: `then` is done if `test` holds, otherwise `other`.
     If {
         test: Expr,
         then: Vec<Stmt>,
@@ -68,15 +68,16 @@ pub enum Stmt {
     },
     /// An atomic block.
     Atomic(Vec<Stmt>),
-    /// Work that a strand of its own does, beside what comes after it.
+    /// Work for a strand of its own, beside what comes after it.
     Spawn(Vec<Stmt>),
     /// Waits for the work that was spawned in the innermost block that waits at its end.
     Sync,
-    /// The end of the innermost atomic block, which is given up: what stood there before its writes is written back. With its keyword's line.
+    /// Gives up the innermost atomic block and ends it: the values from before its writes are written back. `line` is
+    /// the line of the keyword.
     Cancel {
         line: u32,
     },
-    /// The end of a function, with its keyword's line and the function's value.
+    /// The end of a function, with the line of the keyword and the function's value.
     Return {
         line: u32,
         value: Expr,

@@ -7,7 +7,7 @@ use crate::scan::{Front, newlines, read_front};
 use crate::spelling::keywords_of;
 use crate::{Terminal, TextKind};
 
-/// A token of a text. `Bad` is none, for this reason.
+/// A token of a text. `Bad` means that there is no token, and why.
 #[derive(Clone, Copy)]
 pub enum Token<'a> {
     Name(Letters<'a>),
@@ -17,8 +17,8 @@ pub enum Token<'a> {
     End,
 }
 
-/// A place in a text: the token there, its line, and the bytes behind it with the line on which they begin. Its tokens
-/// are those of one language.
+/// A position in a text: the token there with its line, and the bytes behind it with the line on which they begin.
+/// `language` decides which words are keywords.
 #[derive(Drop)]
 pub struct Cursor<'a> {
     pub language: u32,
@@ -34,7 +34,7 @@ impl<'a> Cursor<'a> {
     ghost use Rattle.cw_text.specs.Lexemes.{rest_of};
     ghost use Rattle.cw_text.specs.Text.{is_headed, items_of};
 
-    /// The first token of a text in this language.
+    /// Returns the cursor at the first token of `text`, read with the keywords of `language`.
     pub fn new(language: u32, text: &'a [u8]) -> Cursor<'a>
         requires { length text.now ≤ 2 ^ 20 }
         ensures { tokens_left result ≡ lexemes (keywords_of language) text.now }
@@ -42,7 +42,7 @@ impl<'a> Cursor<'a> {
         Cursor::first_in(language, text, 1)
     }
 
-    /// The first token behind the line that says in which language a text is.
+    /// Returns the cursor at the first token behind the line that names the language.
     pub fn behind_heading(language: u32, text: &'a [u8]) -> Cursor<'a>
         requires { length text.now ≤ 2 ^ 20 }
         ensures { tokens_left result ≡ items_of (lexemes (keywords_of language) text.now) }
@@ -56,7 +56,7 @@ impl<'a> Cursor<'a> {
         cursor
     }
 
-    /// Whether a line begins here that says in which language the text is.
+    /// Whether a line begins here that names the language of the text.
     pub fn is_headed(&self) -> bool
         ensures { result ≡ is_headed (tokens_left self.now) }
     {
@@ -66,7 +66,7 @@ impl<'a> Cursor<'a> {
         }
     }
 
-    /// Goes on to the next token. The end stays where it is.
+    /// Goes on to the next token. At the end the cursor stays.
     pub fn advance(&mut self)
         ensures { tokens_left self.new ≡ rest_of (tokens_left self.old) }
     {
@@ -75,7 +75,7 @@ impl<'a> Cursor<'a> {
         }
     }
 
-    // The first token of a text that begins on this line.
+    // The cursor at the first token of `text`, which begins on line `line`.
     #[tactic(auto, using(crate::proofs::Fronts::front_width, crate::proofs::Passing::begun))]
     fn first_in(language: u32, text: &'a [u8], line: u32) -> Cursor<'a>
         requires { line + length text.now ≤ 2 ^ 20 + 1 }
@@ -109,7 +109,7 @@ impl<'a> Cursor<'a> {
     }
 }
 
-// What stands behind so many bytes of a text that begins on this line, and the line on which that begins.
+// Returns what is left of `text` behind its first `len` bytes, and the line on which that begins. The text begins on line `line`.
 #[tactic(auto, using(crate::proofs::Passing::passed))]
 fn pass(text: &[u8], line: u32, len: usize) -> (&[u8], u32)
     requires within { len ≤ length text.now }

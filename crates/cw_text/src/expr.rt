@@ -34,8 +34,8 @@ pub(crate) struct Arguments {
 }
 
 impl<'a> Parser<'a> {
-    /// An operand: a number, a name with its index, its arguments or neither, an expression in round brackets, or an operator and
-    /// its operand.
+    /// Reads an operand: a number, a name with its index, its arguments or neither, an expression in round brackets, or
+    /// an operator and its operand.
     #[cycle(expression)]
     #[tactic(auto, using(crate::proofs::Steps::steps))]
     fn operand(&mut self) -> Result<Measured, TextRefusal>
@@ -63,7 +63,7 @@ impl<'a> Parser<'a> {
         }
     }
 
-    /// A name that is next, and its index or its arguments, if it has any.
+    /// Reads a name, which is next, and its index or its arguments if it has any.
     #[cycle(expression)]
     #[tactic(auto, using(crate::proofs::Steps::steps))]
     fn named(&mut self, letters: Letters<'a>) -> Result<Measured, TextRefusal>
@@ -93,7 +93,7 @@ impl<'a> Parser<'a> {
         }
     }
 
-    /// The arguments of a call, whose bracket is next.
+    /// Reads the arguments of a call. Their bracket is next.
     #[cycle(expression)]
     #[tactic(auto, using(crate::proofs::Steps::steps))]
     pub(crate) fn arguments(&mut self) -> Result<Arguments, TextRefusal>
@@ -112,7 +112,7 @@ impl<'a> Parser<'a> {
         Ok(args)
     }
 
-    /// Expressions with commas between them, or none.
+    /// Reads expressions with commas between them, or none.
     #[cycle(expression)]
     #[tactic(auto, using(crate::proofs::Steps::steps))]
     fn argument_list(&mut self) -> Result<Arguments, TextRefusal>
@@ -139,7 +139,7 @@ impl<'a> Parser<'a> {
         Ok(Arguments { list, height })
     }
 
-    /// The bracket of arguments ends before the first one.
+    /// Whether the bracket closes before the first argument.
     fn has_no_argument(&self) -> bool
         ensures none { result ≡ true → Skips self.now args }
         ensures some { result ≡ false → (k : List Symbol) (vs : Values) →
@@ -151,7 +151,7 @@ impl<'a> Parser<'a> {
         }
     }
 
-    /// An operator that is next, and its operand.
+    /// Reads the operator `op`, which is next, and its operand.
     #[cycle(expression)]
     #[tactic(auto, using(crate::proofs::Steps::steps))]
     fn prefixed(&mut self, op: Op) -> Result<Measured, TextRefusal>
@@ -180,7 +180,7 @@ impl<'a> Parser<'a> {
         })
     }
 
-    /// An expression whose bracket is next, up to this other one.
+    /// Reads an expression in brackets, of which the opening one is next and `close` is the closing one.
     #[cycle(expression)]
     #[tactic(auto, using(crate::proofs::Steps::steps))]
     pub(crate) fn bracketed(&mut self, close: Terminal) -> Result<Measured, TextRefusal>
@@ -206,7 +206,7 @@ impl<'a> Parser<'a> {
         }
     }
 
-    /// An expression.
+    /// Reads an expression.
     #[cycle(expression)]
     #[tactic(auto, using(crate::proofs::Steps::steps))]
     pub(crate) fn expr(&mut self) -> Result<Measured, TextRefusal>
@@ -228,7 +228,7 @@ impl<'a> Parser<'a> {
         }
     }
 
-    /// Products, with `+` or `-` between them.
+    /// Reads products with `+` or `-` between them.
     #[cycle(expression)]
     #[tactic(auto, using(crate::proofs::Steps::steps))]
     fn sum(&mut self) -> Result<Measured, TextRefusal>
@@ -248,7 +248,7 @@ impl<'a> Parser<'a> {
         Ok(left)
     }
 
-    /// Operands, with `*`, `/` or `%` between them.
+    /// Reads operands with `*`, `/` or `%` between them.
     #[cycle(expression)]
     #[tactic(auto, using(crate::proofs::Steps::steps))]
     fn product(&mut self) -> Result<Measured, TextRefusal>
@@ -305,7 +305,7 @@ impl<'a> Parser<'a> {
     }
 }
 
-/// An element of an array, whose name stands on this line.
+/// Returns an element of the array `name`, at the index `at`, or `TooDeep` on line `line` if it would be too high.
 #[tactic(auto, using(crate::proofs::Steps::steps))]
 fn indexed(alloc: Global, line: u32, name: Word, at: Measured) -> Result<Measured, TextRefusal>
     ensures { (k : List Symbol) (vs : Values) (xs : Lexemes) →
@@ -326,7 +326,7 @@ fn indexed(alloc: Global, line: u32, name: Word, at: Measured) -> Result<Measure
     })
 }
 
-/// A call, whose name stands on this line.
+/// Returns a call of `name` with `args`, or `TooDeep` on line `line` if it would be too high.
 #[tactic(auto, using(crate::proofs::Blocks::inner_is_terms, crate::proofs::Steps::steps))]
 fn called(line: u32, name: Word, args: Arguments) -> Result<Measured, TextRefusal>
     ensures { (k : List Symbol) (vs : Values) (xs : Lexemes) →
@@ -346,7 +346,7 @@ fn called(line: u32, name: Word, args: Arguments) -> Result<Measured, TextRefusa
     })
 }
 
-/// Two expressions with an operator between them, which stands on this line.
+/// Returns `left` and `right` joined by `op`, whose line is `line`.
 #[tactic(auto, using(crate::proofs::Steps::steps))]
 fn joined(
     alloc: Global,
@@ -378,7 +378,7 @@ fn joined(
     })
 }
 
-/// An expression in a place of its own.
+/// Returns `expr` in a box.
 fn boxed(alloc: Global, expr: Expr) -> Result<Box<Expr>, OutOfMemory>
     ensures { IfOk result (λ b. b.value ≡ expr) }
 {

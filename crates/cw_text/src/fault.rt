@@ -4,17 +4,17 @@ use std::alloc::{AllocError, AllocFailed};
 /// What is wrong with a text.
 #[derive(Clone, Copy, PartialEq, Eq, Debug)]
 pub enum TextKind {
-    /// A byte that is in no whole UTF-8 character.
+    /// A byte that belongs to no whole UTF-8 character.
     NotUtf8 = 1,
     /// A character that begins no token.
     BadChar = 2,
-    /// A number that is too large, or runs into a letter, or an array length of 0.
+    /// A number that is too large or runs into a letter, or an array length of 0.
     BadNumber = 3,
-    /// A token that may not stand in its place, or an end that comes too early.
+    /// A token that is not allowed in its place, or an end that comes too early.
     Unexpected = 4,
     /// More than 1,048,576 bytes. Its line is 0.
     TooLong = 5,
-    /// More than 200 open brackets and unary operators, or an expression of a height over 200.
+    /// More than 200 open brackets and unary operators, or an expression higher than 200.
     TooDeep = 6,
 }
 

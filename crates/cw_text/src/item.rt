@@ -11,7 +11,7 @@ use crate::parser::{Parser, refusal};
 use crate::{Item, Terminal, TextKind, TextRefusal, Word};
 
 impl<'a> Parser<'a> {
-    /// The next cell or function, unless the text ends here.
+    /// Reads the next cell or function. Returns `None` at the end of the text.
     #[tactic(auto, using(crate::proofs::Steps::steps))]
     pub(crate) fn item(&mut self) -> Result<Option<Item>, TextRefusal>
         requires { self.old.depth < 200 }
@@ -30,7 +30,7 @@ impl<'a> Parser<'a> {
         }
     }
 
-    /// A cell, whose keyword is next.
+    /// Reads a cell. Its keyword is next.
     #[tactic(auto, using(crate::proofs::Steps::steps))]
     fn cell(&mut self) -> Result<Item, TextRefusal>
         requires { self.old.depth < 200 }
@@ -54,7 +54,7 @@ impl<'a> Parser<'a> {
         })
     }
 
-    /// The number of elements of an array, or 0 for a plain cell.
+    /// Reads the length of an array in its brackets, or returns 0 for a plain cell.
     #[tactic(auto, using(crate::proofs::Steps::steps))]
     fn cell_size(&mut self) -> Result<u64, TextRefusal>
         requires { self.old.depth < 200 }
@@ -76,7 +76,7 @@ impl<'a> Parser<'a> {
         }
     }
 
-    /// A number of elements, of which an array has some.
+    /// Reads an array length, which is at least 1.
     fn size(&mut self) -> Result<u64, TextRefusal>
         requires { self.old.depth ≤ 200 }
         ensures same { OnOk result (self.new.depth ≡ self.old.depth) }
@@ -97,7 +97,7 @@ impl<'a> Parser<'a> {
         }
     }
 
-    /// The initial value of a cell, which is 0 where none is given.
+    /// Reads the initial value of a cell, or returns 0 if none is given.
     fn initial_value(&mut self) -> Result<i64, TextRefusal>
         requires { self.old.depth < 200 }
         ensures same { OnOk result (self.new.depth ≡ self.old.depth) }
@@ -115,7 +115,7 @@ impl<'a> Parser<'a> {
         }
     }
 
-    /// A number, with `-` before it or not.
+    /// Reads a number, with or without `-` before it.
     fn signed(&mut self) -> Result<i64, TextRefusal>
         requires { self.old.depth < 200 }
         ensures same { OnOk result (self.new.depth ≡ self.old.depth) }
@@ -137,7 +137,7 @@ impl<'a> Parser<'a> {
         }
     }
 
-    /// The number behind a `-`, with that sign.
+    /// Reads the number behind a `-` and returns its negative.
     fn negated(&mut self) -> Result<i64, TextRefusal>
         requires { self.old.depth < 200 }
         ensures same { OnOk result (self.new.depth ≡ self.old.depth) }
@@ -155,7 +155,7 @@ impl<'a> Parser<'a> {
         }
     }
 
-    /// A function, whose keyword is next.
+    /// Reads a function. Its keyword is next.
     #[tactic(auto, using(crate::proofs::Steps::steps))]
     fn function(&mut self) -> Result<Item, TextRefusal>
         requires { self.old.depth < 200 }
@@ -180,7 +180,7 @@ impl<'a> Parser<'a> {
         })
     }
 
-    /// Names with commas between them, or none.
+    /// Reads names with commas between them, or none.
     #[tactic(auto, using(crate::proofs::Steps::steps))]
     fn params(&mut self) -> Result<Vec<Word>, TextRefusal>
         ensures same { OnOk result (self.new.depth ≡ self.old.depth) }

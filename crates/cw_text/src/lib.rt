@@ -1,13 +1,12 @@
-//! Texts of programs: the syntax tree, the reader that gives it, and the printer that writes it as a text again.
+//! Texts of programs: the syntax tree, the reader that makes it from a text, and the printer that makes a text of it.
 //! A program is cells, plain ones and arrays, and functions, with the statements `let`, assignment, call, `out`, `if`,
 //! `while`, `atomic`, `spawn`, `sync` and `return`, and in language 2 `cancel`.
-//! Stands on `cw_base`.
-//! Contracts cite `specs/Text.antt`, which says what a whole text reads as, over `specs/Lexemes.antt` (tokens),
-//! `specs/Grammar.antt` (which tokens are a program, and the first fault of those that are none) and `specs/Syntax.antt`
-//! (the tree without its places in memory). `specs/Written.antt` is the grammar alternative by alternative,
-//! `specs/Places.antt` says of the tokens where in the text they stand, `specs/Printed.antt` which tokens a tree is
-//! printed as, `specs/PrintedText.antt` as which text, `specs/WithoutLines.antt` what is the same tree but for the lines, and
-//! `specs/Cancels.antt` whether a `cancel` stands in a tree.
+//! Contracts cite `specs/Text.antt` (what a whole text reads as), which is over `specs/Lexemes.antt` (tokens),
+//! `specs/Grammar.antt` (which tokens are a program, otherwise their first fault) and `specs/Syntax.antt` (the tree
+//! without its places in memory). They also cite `specs/Written.antt` (the grammar, one alternative at a time),
+//! `specs/Places.antt` (the bytes of each token), `specs/Printed.antt` (the tokens of a tree), `specs/PrintedText.antt`
+//! (the text of a tree), `specs/WithoutLines.antt` (the same tree except for its lines) and `specs/Cancels.antt`
+//! (whether a tree contains a `cancel`).
 #![tactic(auto)]
 
 ghost use Rattle.std.specs.Prelude.{ℕ, List, length, false, Ok, ◌≡◌, ◌≤◌};
@@ -61,13 +60,12 @@ pub fn worked_texts()
     ensures refusals { Refusals }
 {}
 
-/// The tokens of a text follow each other without a hole, and a line is 1 and the number of newlines before it.
+/// The tokens of a text follow each other without a hole. The line of a token is 1 plus the number of newlines before it.
 pub fn tokens_follow()
     ensures { (words : List Terminal) (text : List ℕ) → Follow words text 0 (lexemes words text) }
 {}
 
-/// Tokens are read as a tree exactly where they spell it, by the alternatives of the grammar, and their language is the
-/// one that they name.
+/// Tokens are read as a tree exactly if they spell it by the alternatives of the grammar. Their language is the one that they name.
 pub fn read_is_written()
     ensures heading { (newest n : ℕ) (xs : Lexemes) → language_of newest xs ≡ Ok n → IsHeading newest n xs }
     ensures headed { (newest n : ℕ) (xs : Lexemes) → IsHeading newest n xs → language_of newest xs ≡ Ok n }
@@ -75,8 +73,8 @@ pub fn read_is_written()
     ensures read { (xs : Lexemes) (ds : List Declaration) → IsProgram ds xs → program_of xs ≡ Ok ds }
 {}
 
-/// Reading undoes printing: a tree's tokens read as that tree, with its lines, if it can be read at all. The tree of
-/// whatever was read can be. Of the lines of tokens only those of names, of `cancel` and of `return` count.
+/// Reading undoes printing: a tree's tokens read as that tree, with its lines, if it is readable. Every tree that was
+/// read is readable. Only the lines of names, of `cancel` and of `return` count.
 pub fn printed_is_read()
     ensures read { (ds : List Declaration) → IsReadable ds → program_of (printed ds) ≡ Ok ds }
     ensures lines { (xs ys : Lexemes) (ds : List Declaration) → only_tree_lines xs ≡ only_tree_lines ys →
@@ -88,9 +86,9 @@ pub fn printed_is_read()
     ensures worked { Worked }
 {}
 
-/// Reading undoes printing, of whole texts: what a source is printed as reads as that source, but for its lines, if it is
-/// short enough and its tree can be read at all. That of whatever text was read can be. Lines have no part in what is
-/// printed, so a printed text is printed as itself again.
+/// Reading undoes printing, for whole texts: the printed text of a source reads as that source, except for its lines,
+/// if the text is short enough and the tree is readable. Every tree that was read is readable. Printing does not depend
+/// on lines, so a printed text is printed as itself again.
 pub fn reading_undoes_printing()
     ensures tokens { (xs ys : Lexemes) (ds : List Declaration) → tokens_without_lines xs ≡ tokens_without_lines ys →
         program_of xs ≡ Ok ds → IsReadAs (program_of ys) ds }
@@ -103,14 +101,14 @@ pub fn reading_undoes_printing()
         printed_text s ≡ printed_text t }
 {}
 
-/// No text reads otherwise since texts can name their language: one whose tokens, with the keywords of language 1, are a program reads as
-/// that program, of language 1, up to whatever language is read.
+/// The heading that names a language changes no older text: if the tokens of a text, with the keywords of language 1,
+/// are a program, the text reads as that program, of language 1, for every newest language.
 pub fn older_texts_stay()
     ensures { (newest : ℕ) (text : List ℕ) (ds : List Declaration) → program_of (lexemes keywords text) ≡ Ok ds →
         source_in (language_of newest (lexemes keywords text)) text ≡ Ok (record { language = 1; items = ds }) }
 {}
 
-/// In language 1 `cancel` is a name: no text of it has the statement.
+/// In language 1 `cancel` is a name, so no text of language 1 has the statement.
 pub fn language_one_has_no_cancel()
     ensures language { (newest : ℕ) (text : List ℕ) (s : Source) → 1 ≤ newest →
         program newest text ≡ Ok s → s.language ≡ 1 → has_cancel s.items ≡ false }

@@ -11,12 +11,12 @@ use crate::{Ast, Item, Terminal, TextFault, TextKind, TextRefusal, Word};
 use cw_base::{OutOfMemory, Text};
 use std::alloc::Global;
 
-/// How many brackets and operators of one operand may be open, and how high an expression may be.
+/// The most brackets and unary operators that may be open, and the greatest height of an expression.
 pub(crate) const DEEPEST: u32 = 200;
 
-/// What reads a program: the place in its text, and how many brackets and operators of one operand are open there.
-/// Only those lead to a call within a call, so their number bounds the stack: operators between operands, the statements
-/// of one block and items are read by loops. After an `Err` it is not used again.
+/// Reads a program: the position in its text, and how many brackets and unary operators are open there. Only those lead
+/// to a call within a call, so `depth` bounds the stack: loops read operators between operands, the statements of a
+/// block, and items. After an `Err` it is not used again.
 #[derive(Drop)]
 pub(crate) struct Parser<'a> {
     pub alloc: Global,
@@ -25,14 +25,14 @@ pub(crate) struct Parser<'a> {
 }
 
 impl<'a> Parser<'a> {
-    /// The fault of the next token, where it may not stand.
+    /// The fault of the next token, which is not allowed here.
     pub(crate) fn unexpected(&self) -> TextRefusal
         ensures { result ≡ TextRefusal.Text (fault_at (ahead self.now)) }
     {
         unexpected(&self.cursor)
     }
 
-    /// Goes past the next token, which opens a bracket or is an operator of one operand.
+    /// Takes the next token, which opens a bracket or is a unary operator, or returns `TooDeep`.
     pub(crate) fn enter(&mut self) -> Result<(), TextRefusal>
         requires { self.old.depth ≤ 200 }
         ensures counted { OnOk result (self.new.depth ≡ self.old.depth + 1) }
@@ -50,7 +50,7 @@ impl<'a> Parser<'a> {
         Ok(())
     }
 
-    /// Takes this terminal.
+    /// Takes `terminal`, or returns the fault of the token that is next.
     pub(crate) fn expect(&mut self, terminal: Terminal) -> Result<(), TextRefusal>
         ensures same { OnOk result (self.new.depth ≡ self.old.depth) }
         ensures shorter { OnOk result (count_of_lexemes (ahead self.new) < count_of_lexemes (ahead self.old)) }
@@ -68,7 +68,7 @@ impl<'a> Parser<'a> {
         }
     }
 
-    /// Takes a name.
+    /// Takes a name, or returns the fault of the token that is next.
     pub(crate) fn word(&mut self) -> Result<Word, TextRefusal>
         ensures same { OnOk result (self.new.depth ≡ self.old.depth) }
         ensures shorter { OnOk result (count_of_lexemes (ahead self.new) < count_of_lexemes (ahead self.old)) }
@@ -82,7 +82,7 @@ impl<'a> Parser<'a> {
         }
     }
 
-    /// Takes the next token, which is a name.
+    /// Takes the next token, which is the name `letters`.
     pub(crate) fn word_of(&mut self, letters: Letters<'a>) -> Result<Word, OutOfMemory>
         ensures same { OnOk result (self.new.depth ≡ self.old.depth) }
         ensures left { OnOk result (ahead self.new ≡ rest_of (ahead self.old)) }
@@ -95,7 +95,7 @@ impl<'a> Parser<'a> {
     }
 }
 
-// The end of the line that says in which language a text is.
+// Expects the end of the heading, the `;`, and returns `language`.
 fn ended(cursor: &Cursor<'_>, language: u32) -> Result<u32, TextRefusal>
     ensures { IsLanguage result (line_ended language (tokens_left cursor.now)) }
 {
@@ -105,7 +105,7 @@ fn ended(cursor: &Cursor<'_>, language: u32) -> Result<u32, TextRefusal>
     }
 }
 
-// The number of the language of a text, and the end of its line.
+// Reads the number of the language, up to `newest`, and the end of the heading.
 fn numbered(cursor: &mut Cursor<'_>, newest: u32) -> Result<u32, TextRefusal>
     ensures { IsLanguage result (numbered newest (tokens_left cursor.old)) }
 {
@@ -118,7 +118,7 @@ fn numbered(cursor: &mut Cursor<'_>, newest: u32) -> Result<u32, TextRefusal>
     }
 }
 
-// The language that a text says it is in, or 1.
+// The language that the text names, or 1 if it names none.
 fn language_of(text: &[u8], newest: u32) -> Result<u32, TextRefusal>
     requires { length text.now ≤ 2 ^ 20 }
     ensures { IsLanguage result (language_of newest (lexemes keywords text.now)) }
@@ -131,7 +131,7 @@ fn language_of(text: &[u8], newest: u32) -> Result<u32, TextRefusal>
     numbered(&mut cursor, newest)
 }
 
-/// Reads a text in a language up to this one.
+/// Reads a text in a language up to `newest`.
 pub(crate) fn source(alloc: Global, text: &[u8], newest: u32) -> Result<Ast, TextRefusal>
     requires { length text.now ≤ 2 ^ 20 }
     ensures { Reads result (source_in (language_of newest (lexemes keywords text.now)) text.now) }
@@ -141,7 +141,7 @@ pub(crate) fn source(alloc: Global, text: &[u8], newest: u32) -> Result<Ast, Tex
     Ok(Ast { language, items })
 }
 
-// Reads all that a cursor has left.
+// Reads all items that are left.
 fn items(alloc: Global, cursor: Cursor<'_>) -> Result<Vec<Item>, TextRefusal>
     ensures { ReadsItems result (program_of (tokens_left cursor.entry)) }
 {
@@ -157,7 +157,7 @@ fn items(alloc: Global, cursor: Cursor<'_>) -> Result<Vec<Item>, TextRefusal>
     Ok(items)
 }
 
-// The fault of the token that is next, where it may not stand.
+// The fault of the next token, which is not allowed here.
 fn unexpected(cursor: &Cursor<'_>) -> TextRefusal
     ensures { result ≡ TextRefusal.Text (fault_at (tokens_left cursor.now)) }
 {
@@ -168,7 +168,7 @@ fn unexpected(cursor: &Cursor<'_>) -> TextRefusal
     refusal(kind, cursor.line)
 }
 
-/// A fault on a line.
+/// A fault on line `line`.
 pub(crate) fn refusal(kind: TextKind, line: u32) -> TextRefusal
     ensures { result ≡ TextRefusal.Text (record { kind = kind; line = line }) }
 {

@@ -25,7 +25,7 @@ impl Model for Printer {
     ghost view = { λ p. p.text.items };
 }
 
-/// The blank behind a keyword or a sign: a newline behind `;`, `{` and `}`, and else a space.
+/// The blank behind a keyword or a sign: a newline behind `;`, `{` and `}`, otherwise a space.
 fn blank_behind(terminal: Terminal) -> u8
     ensures { result ≡ blank_behind (terminal_token terminal) }
 {
@@ -55,7 +55,7 @@ fn terminal_of(op: Op) -> Terminal
     }
 }
 
-/// How tightly an operator binds: a comparison 0, a sum 1, a product 2, an operator of one operand 3.
+/// How tightly an operator binds: a comparison 0, a sum 1, a product 2, a unary operator 3.
 fn tightness(op: Op) -> u32
     ensures { result ≡ tightness op }
 {
@@ -68,7 +68,7 @@ fn tightness(op: Op) -> u32
 }
 
 impl Printer {
-    // A token, and the blank behind it.
+    // Prints a token and the blank behind it.
     fn token(&mut self, spelled: &[u8], blank: u8) -> Result<(), OutOfMemory>
         ensures { OnOk result (self.new ≡ self.old ++ (spelled.now ++ blank ∷ [])) }
     {
@@ -95,7 +95,7 @@ impl Printer {
         self.name(&word.name, word.line)
     }
 
-    // A number without its sign.
+    // Prints a number without its sign.
     fn digits(&mut self, value: u64) -> Result<(), OutOfMemory>
         ensures { OnOk result (self.new ≡ with_tokens self.old (number_tokens (pos value))) }
     {
@@ -112,7 +112,7 @@ impl Printer {
         self.digits(value.unsigned_abs())
     }
 
-    // A bracket, where it is needed.
+    // Prints `bracket` if it is needed.
     fn bracket(&mut self, needed: bool, bracket: Terminal) -> Result<(), OutOfMemory>
         ensures { OnOk result (self.new ≡ with_tokens self.old (if needed then sign bracket else [])) }
     {
@@ -122,7 +122,7 @@ impl Printer {
         Ok(())
     }
 
-    /// An expression where so much tightness is wanted. Brackets stand around an operator that binds less.
+    /// Prints an expression, in brackets if its operator binds less tightly than `wanted`.
     #[cycle(expression)]
     #[tactic(auto, using(crate::proofs::Printing::with_tokens_append))]
     fn term(&mut self, wanted: u32, term: &Expr) -> Result<(), OutOfMemory>
@@ -154,7 +154,7 @@ impl Printer {
         }
     }
 
-    /// The index of an element, in its brackets.
+    /// Prints the index of an element, in its brackets.
     #[cycle(expression)]
     #[tactic(auto, using(crate::proofs::Printing::with_tokens_append))]
     fn index(&mut self, at: &Expr) -> Result<(), OutOfMemory>
@@ -165,7 +165,7 @@ impl Printer {
         self.sign(Terminal::SquareClose)
     }
 
-    /// The arguments of a call, in their brackets.
+    /// Prints the arguments of a call, in their brackets.
     #[cycle(expression)]
     #[tactic(auto, using(crate::proofs::Printing::with_tokens_append))]
     fn arguments(&mut self, args: &[Expr]) -> Result<(), OutOfMemory>
@@ -176,7 +176,7 @@ impl Printer {
         self.sign(Terminal::ParenClose)
     }
 
-    /// Arguments with commas between them.
+    /// Prints arguments with commas between them.
     #[cycle(expression)]
     #[tactic(auto, using(crate::proofs::Printing::with_tokens_append))]
     fn argument_list(&mut self, args: &[Expr]) -> Result<(), OutOfMemory>
@@ -192,7 +192,7 @@ impl Printer {
         Ok(())
     }
 
-    // `=`, a value and the end of a statement.
+    // Prints `=`, a value and the end of a statement.
     #[tactic(auto, using(crate::proofs::Printing::with_tokens_append))]
     fn value(&mut self, value: &Expr) -> Result<(), OutOfMemory>
         ensures { OnOk result (self.new ≡ with_tokens self.old (value_tokens (term_of value.now))) }
@@ -202,7 +202,7 @@ impl Printer {
         self.sign(Terminal::Semicolon)
     }
 
-    // The value of an `out` or a `return`, and the end of the statement.
+    // Prints the value of an `out` or a `return`, and the end of the statement.
     #[tactic(auto, using(crate::proofs::Printing::with_tokens_append))]
     fn value_alone(&mut self, value: &Expr) -> Result<(), OutOfMemory>
         ensures { OnOk result (self.new ≡ with_tokens self.old (term_tokens 0 (term_of value.now) ++ sign Terminal.Semicolon)) }
@@ -274,7 +274,7 @@ impl Printer {
         }
     }
 
-    // What is done else, which is not written where it has no statements.
+    // Prints the `else` part, which is left out if it is empty.
     #[cycle(block)]
     fn otherwise(&mut self, other: &[Stmt]) -> Result<(), OutOfMemory>
         ensures { OnOk result (self.new ≡ with_tokens self.old (else_tokens (block_of other.now))) }
@@ -286,7 +286,7 @@ impl Printer {
         self.block(other)
     }
 
-    // The statements of a block, in its brackets.
+    // Prints the statements of a block, in braces.
     #[cycle(block)]
     #[tactic(auto, using(crate::proofs::Printing::with_tokens_append))]
     fn block(&mut self, body: &[Stmt]) -> Result<(), OutOfMemory>
@@ -299,7 +299,7 @@ impl Printer {
         self.sign(Terminal::BraceClose)
     }
 
-    // Names with commas between them.
+    // Prints names with commas between them.
     #[tactic(auto, using(crate::proofs::Printing::with_tokens_append))]
     fn words(&mut self, words: &[Word]) -> Result<(), OutOfMemory>
         ensures { OnOk result (self.new ≡ with_tokens self.old (words_tokens words.now)) }
@@ -314,7 +314,7 @@ impl Printer {
         Ok(())
     }
 
-    // The number of elements of an array.
+    // Prints the length of an array, and nothing for a plain cell.
     fn size(&mut self, len: u64) -> Result<(), OutOfMemory>
         ensures { OnOk result (self.new ≡ with_tokens self.old (size_tokens len)) }
     {
@@ -326,7 +326,7 @@ impl Printer {
         self.sign(Terminal::SquareClose)
     }
 
-    // The initial value of a cell, which is not written where it is 0.
+    // Prints the initial value of a cell, and nothing if it is 0.
     fn initial_value(&mut self, value: i64) -> Result<(), OutOfMemory>
         ensures { OnOk result (self.new ≡ with_tokens self.old (init_tokens value)) }
     {
@@ -337,7 +337,7 @@ impl Printer {
         self.number(value)
     }
 
-    // A cell.
+    // Prints a cell.
     #[tactic(auto, using(crate::proofs::Printing::with_tokens_append))]
     fn cell(&mut self, name: &Text, line: u32, len: u64, init: i64) -> Result<(), OutOfMemory>
         ensures { OnOk result (self.new ≡ with_tokens self.old (declaration_tokens (cell name.now line len init))) }
@@ -349,7 +349,7 @@ impl Printer {
         self.sign(Terminal::Semicolon)
     }
 
-    // A function.
+    // Prints a function.
     #[tactic(auto, using(crate::proofs::Printing::with_tokens_append))]
     fn function(
         &mut self,
@@ -368,7 +368,7 @@ impl Printer {
         self.block(body)
     }
 
-    // The language, which is not written where it is 1.
+    // Prints the line that names the language, and nothing for language 1.
     fn heading(&mut self, language: u32) -> Result<(), OutOfMemory>
         ensures { OnOk result (self.new ≡ with_tokens self.old (heading_tokens language)) }
     {
@@ -400,10 +400,12 @@ impl Printer {
     }
 }
 
-/// The text of a program: the tokens of its tree, with a newline behind each `;`, `{` and `}` and a space behind each other one.
+/// Returns the text of a program: the tokens of its tree, with a newline behind each `;`, `{` and `}` and a space
+/// behind each other token.
 ///
-/// Brackets stand where the tree needs them, and nowhere else. An initial value 0 is not written, nor an `else` without statements.
-/// What `read_program` gave is read from its text again, but for the lines, if the text is not too long.
+/// Brackets are written only if the tree needs them. An initial value 0 is left out, and so is an `else` without
+/// statements. What `read_program` returned is read from its printed text again, except for the lines, if the text is
+/// not too long.
 pub fn print_program(alloc: Global, ast: &Ast) -> Result<Vec<u8>, OutOfMemory>
     ensures { IfOk result (λ text. text.items ≡ printed_text (source_of ast.now)) }
 {

@@ -11,7 +11,7 @@ use crate::letters::{Letters, Whole};
 use crate::spelling::{SIGNS, spelling};
 use crate::{Terminal, TextKind};
 
-/// What a text begins with, and how many bytes it takes: a gap or a token.
+/// What a text begins with, a gap or a token, and how many bytes it takes.
 #[derive(Clone, Copy)]
 pub enum Front<'a> {
     Gap(usize),
@@ -25,7 +25,7 @@ fn is_letter(byte: u8) -> bool
     byte.is_ascii_alphabetic() || byte == b'_'
 }
 
-// Whether a byte may stand in a word.
+// Whether a byte may occur in a word.
 fn is_word(byte: u8) -> bool
     ensures { result ≡ is_word byte }
 {
@@ -39,14 +39,14 @@ fn is_blank(byte: u8) -> bool
     matches!(byte, b' ' | b'\t' | b'\r' | b'\n')
 }
 
-/// How many newlines there are.
+/// The number of newlines in `text`.
 pub fn newlines(text: &[u8]) -> usize
     ensures { result ≡ count_by (λ c. c == 10) text.now }
 {
     text.iter().filter(|byte| **byte == b'\n').count()
 }
 
-// How long the word is that a text begins with.
+// The length of the word that `text` begins with.
 fn word_len(text: &[u8]) -> usize
     ensures exact { result ≡ length (take_while is_word text.now) }
     ensures fits { result ≤ length text.now }
@@ -54,7 +54,7 @@ fn word_len(text: &[u8]) -> usize
     text.iter().take_while(|byte| is_word(**byte)).count()
 }
 
-// How many digits a text begins with.
+// The number of digits that `text` begins with.
 fn digits_len(text: &[u8]) -> usize
     ensures exact { result ≡ length (take_while is_ascii_digit text.now) }
     ensures fits { result ≤ length text.now }
@@ -62,14 +62,14 @@ fn digits_len(text: &[u8]) -> usize
     text.iter().take_while(|byte| byte.is_ascii_digit()).count()
 }
 
-// How long the rest of a line is, without its newline.
+// The length of the rest of the line, without its newline.
 fn line_len(text: &[u8]) -> usize
     ensures { result ≡ length (take_while (λ c. not (c == 10)) text.now) }
 {
     text.iter().take_while(|byte| **byte != b'\n').count()
 }
 
-// The keyword that a word is, or else a name.
+// The keyword that `word` is, otherwise a name.
 fn word_token<'a>(words: &[Terminal], word: &'a [u8]) -> Token<'a>
     requires { AllPass is_word word.now }
     ensures { lexeme_of result ≡ word_token words.now word.now }
@@ -82,7 +82,7 @@ fn word_token<'a>(words: &[Terminal], word: &'a [u8]) -> Token<'a>
     Token::Name(Letters { bytes: word })
 }
 
-// What digits say, where an `i64` can hold it.
+// The value of `digits`, if it fits an `i64`.
 #[tactic(auto, using(crate::proofs::Digits::value_on_next))]
 fn value_of(digits: &[u8]) -> Option<u64>
     requires { AllPass is_ascii_digit digits.now }
@@ -95,14 +95,14 @@ fn value_of(digits: &[u8]) -> Option<u64>
     (value <= i64::MAX as u64).then_some(value)
 }
 
-// Whether a text begins with a letter.
+// Whether `text` begins with a letter.
 fn begins_word(text: &[u8]) -> bool
     ensures { result ≡ begins_by is_letter text.now }
 {
     text.first().is_some_and(|byte| is_letter(*byte))
 }
 
-// The number that these digits are, with what stands behind them.
+// The number that `digits` spell, unless it is too large or `rest` begins with a letter.
 fn number_token(digits: &[u8], rest: &[u8]) -> Token<'static>
     requires { AllPass is_ascii_digit digits.now }
     ensures { lexeme_of result ≡ number_token digits.now rest.now }
@@ -113,7 +113,7 @@ fn number_token(digits: &[u8], rest: &[u8]) -> Token<'static>
     }
 }
 
-// The first of these signs with which a text begins.
+// The first of `signs` that `text` begins with.
 fn sign_front(signs: &[Terminal], text: &[u8]) -> Front<'static>
     ensures { front_of result ≡ sign_front signs.now text.now }
 {
@@ -126,7 +126,7 @@ fn sign_front(signs: &[Terminal], text: &[u8]) -> Front<'static>
     Front::Found(Token::Bad(TextKind::BadChar), 1)
 }
 
-// The word that a text begins with.
+// The word that `text` begins with.
 fn word_front<'a>(words: &[Terminal], text: &'a [u8]) -> Front<'a>
     ensures { let word = take_while is_word text.now in
         front_of result ≡ found (word_token words.now word) (length word) }
@@ -135,7 +135,7 @@ fn word_front<'a>(words: &[Terminal], text: &'a [u8]) -> Front<'a>
     Front::Found(word_token(words, word), word.len())
 }
 
-// The number that a text begins with.
+// The number that `text` begins with.
 fn number_front(text: &[u8]) -> Front<'static>
     ensures { let digits = take_while is_ascii_digit text.now in
         front_of result ≡ found (number_token digits (after_digits text.now)) (length digits) }
@@ -144,7 +144,7 @@ fn number_front(text: &[u8]) -> Front<'static>
     Front::Found(number_token(digits, rest), digits.len())
 }
 
-/// What a text begins with, where these words are keywords.
+/// Returns what `text` begins with. `words` are the keywords.
 #[tactic(auto, using(crate::proofs::Fronts::word_is_front, crate::proofs::Fronts::number_is_front))]
 pub fn read_front<'a>(words: &[Terminal], text: &'a [u8]) -> Front<'a>
     ensures { front_of result ≡ front words.now text.now }

@@ -3,7 +3,7 @@ ghost use Rattle.cw_text.specs.Lexemes.{keywords_of, signs, spelling};
 
 use crate::Terminal;
 
-// The words that are no names in language 1.
+// The keywords of language 1.
 const KEYWORDS: [Terminal; 11] = [
     Terminal::Cell,
     Terminal::Fn,
@@ -18,7 +18,7 @@ const KEYWORDS: [Terminal; 11] = [
     Terminal::Return,
 ];
 
-// Those of language 2.
+// The keywords of language 2.
 const NEWER_KEYWORDS: [Terminal; 12] = [
     Terminal::Cancel,
     Terminal::Cell,
@@ -34,7 +34,7 @@ const NEWER_KEYWORDS: [Terminal; 12] = [
     Terminal::Return,
 ];
 
-/// The words that are no names in a language.
+/// The keywords of a language, which are no names in it.
 pub fn keywords_of(language: u32) -> &'static [Terminal]
     ensures { result.now ≡ keywords_of language }
 {
@@ -45,7 +45,7 @@ pub fn keywords_of(language: u32) -> &'static [Terminal]
     }
 }
 
-/// The signs, a longer one before those that begin it.
+/// The signs. A sign comes before those that begin it.
 pub const SIGNS: [Terminal; 21] = [
     Terminal::EqEq,
     Terminal::BangEq,

@@ -12,7 +12,7 @@ use crate::parser::Parser;
 use crate::{Expr, Stmt, Terminal, TextRefusal};
 
 impl<'a> Parser<'a> {
-    /// Statements in braces.
+    /// Reads statements in braces.
     #[cycle(statement)]
     #[tactic(auto, using(crate::proofs::Steps::steps))]
     pub(crate) fn block(&mut self) -> Result<Vec<Stmt>, TextRefusal>
@@ -35,7 +35,7 @@ impl<'a> Parser<'a> {
         Ok(body)
     }
 
-    /// The next statement, if one begins here.
+    /// Reads the next statement. Returns `None` if none begins here.
     #[cycle(statement)]
     #[tactic(auto, using(crate::proofs::Steps::steps))]
     fn statement(&mut self) -> Result<Option<Stmt>, TextRefusal>
@@ -62,7 +62,7 @@ impl<'a> Parser<'a> {
         }
     }
 
-    /// A new local, whose keyword is next.
+    /// Reads a new local. Its keyword is next.
     fn let_statement(&mut self) -> Result<Stmt, TextRefusal>
         requires { self.old.depth ≤ 200 }
         ensures same { OnOk result (self.new.depth ≡ self.old.depth) }
@@ -77,7 +77,7 @@ impl<'a> Parser<'a> {
         Ok(Stmt::Let { name, value })
     }
 
-    /// An output, whose keyword is next.
+    /// Reads an output. Its keyword is next.
     fn out_statement(&mut self) -> Result<Stmt, TextRefusal>
         requires { self.old.depth ≤ 200 }
         ensures same { OnOk result (self.new.depth ≡ self.old.depth) }
@@ -96,7 +96,7 @@ impl<'a> Parser<'a> {
         }
     }
 
-    /// A choice, whose keyword is next.
+    /// Reads a choice. Its keyword is next.
     #[cycle(statement)]
     #[tactic(auto, using(crate::proofs::Blocks::inner_is_block, crate::proofs::Steps::steps))]
     fn if_statement(&mut self) -> Result<Stmt, TextRefusal>
@@ -114,7 +114,7 @@ impl<'a> Parser<'a> {
         Ok(Stmt::If { test, then, other })
     }
 
-    /// What is done where a test does not hold: a block behind `else`, or nothing.
+    /// Reads the `else` part of a choice: a block behind `else`, or nothing.
     #[cycle(statement)]
     #[tactic(auto, using(crate::proofs::Steps::steps))]
     fn otherwise(&mut self) -> Result<Vec<Stmt>, TextRefusal>
@@ -134,7 +134,7 @@ impl<'a> Parser<'a> {
         }
     }
 
-    /// A loop, whose keyword is next.
+    /// Reads a loop. Its keyword is next.
     #[cycle(statement)]
     #[tactic(auto, using(crate::proofs::Blocks::inner_is_block, crate::proofs::Steps::steps))]
     fn while_statement(&mut self) -> Result<Stmt, TextRefusal>
@@ -155,7 +155,7 @@ impl<'a> Parser<'a> {
         }
     }
 
-    /// An atomic block, whose keyword is next.
+    /// Reads an atomic block. Its keyword is next.
     #[cycle(statement)]
     #[tactic(auto, using(crate::proofs::Blocks::inner_is_block, crate::proofs::Steps::steps))]
     fn atomic_statement(&mut self) -> Result<Stmt, TextRefusal>
@@ -170,7 +170,7 @@ impl<'a> Parser<'a> {
         Ok(Stmt::Atomic(body))
     }
 
-    /// A block for a strand of its own, whose keyword is next.
+    /// Reads a block for a strand of its own. Its keyword is next.
     #[cycle(statement)]
     #[tactic(auto, using(crate::proofs::Blocks::inner_is_block, crate::proofs::Steps::steps))]
     fn spawn_statement(&mut self) -> Result<Stmt, TextRefusal>
@@ -185,7 +185,7 @@ impl<'a> Parser<'a> {
         Ok(Stmt::Spawn(body))
     }
 
-    /// A wait for what was spawned, whose keyword is next.
+    /// Reads a `sync`. Its keyword is next.
     fn sync_statement(&mut self) -> Result<Stmt, TextRefusal>
         requires { self.old.depth ≤ 200 }
         ensures same { OnOk result (self.new.depth ≡ self.old.depth) }
@@ -198,7 +198,7 @@ impl<'a> Parser<'a> {
         Ok(Stmt::Sync)
     }
 
-    /// The end of a block that is given up, whose keyword is next.
+    /// Reads a `cancel`. Its keyword is next.
     #[tactic(auto, using(crate::proofs::Steps::steps))]
     fn cancel_statement(&mut self) -> Result<Stmt, TextRefusal>
         requires { self.old.depth ≤ 200 }
@@ -214,7 +214,7 @@ impl<'a> Parser<'a> {
         Ok(Stmt::Cancel { line })
     }
 
-    /// The end of a function with its value, whose keyword is next.
+    /// Reads a `return` and its value. Its keyword is next.
     #[tactic(auto, using(crate::proofs::Steps::steps))]
     fn return_statement(&mut self) -> Result<Stmt, TextRefusal>
         requires { self.old.depth ≤ 200 }
@@ -231,7 +231,7 @@ impl<'a> Parser<'a> {
         Ok(Stmt::Return { line, value })
     }
 
-    /// An assignment or a call, whose name is next.
+    /// Reads an assignment or a call. Its name is next.
     #[tactic(auto, using(crate::proofs::Steps::steps, crate::proofs::Steps::value_begins))]
     fn named_statement(&mut self, letters: Letters<'a>) -> Result<Stmt, TextRefusal>
         requires { self.old.depth ≤ 200 }
@@ -267,7 +267,7 @@ impl<'a> Parser<'a> {
         }
     }
 
-    /// `=`, a value and the end of a statement.
+    /// Reads `=`, a value and the end of a statement.
     fn assigned_value(&mut self) -> Result<Expr, TextRefusal>
         requires { self.old.depth ≤ 200 }
         ensures same { OnOk result (self.new.depth ≡ self.old.depth) }

@@ -41,7 +41,7 @@ pub enum Terminal {
     GreaterEq,
 }
 
-/// The operator before an operand.
+/// The unary operator that a terminal is.
 pub fn prefix_of(terminal: Terminal) -> Option<Op>
     ensures { result ≡ prefix_of terminal }
 {
@@ -52,7 +52,7 @@ pub fn prefix_of(terminal: Terminal) -> Option<Op>
     }
 }
 
-/// The operator of a product.
+/// The operator of a product that a terminal is.
 pub fn product_of(terminal: Terminal) -> Option<Op>
     ensures { result ≡ product_of terminal }
 {
@@ -64,7 +64,7 @@ pub fn product_of(terminal: Terminal) -> Option<Op>
     }
 }
 
-/// The operator of a sum.
+/// The operator of a sum that a terminal is.
 pub fn sum_of(terminal: Terminal) -> Option<Op>
     ensures { result ≡ sum_of terminal }
 {
@@ -75,7 +75,7 @@ pub fn sum_of(terminal: Terminal) -> Option<Op>
     }
 }
 
-/// The operator of a comparison.
+/// The operator of a comparison that a terminal is.
 pub fn comparison_of(terminal: Terminal) -> Option<Op>
     ensures { result ≡ comparison_of terminal }
 {

@@ -10,7 +10,7 @@ use std::str;
 // The most bytes that a text may have.
 const MAX_LEN: usize = 1_048_576;
 
-// The line of a place in a text: 1 and the number of newlines before it.
+// The line of the byte at `place`: 1 plus the number of newlines before it.
 fn line_of(text: &[u8], place: usize) -> u32
     requires within { place ≤ length text.now }
     requires short { length text.now < 2 ^ 31 }
@@ -19,19 +19,19 @@ fn line_of(text: &[u8], place: usize) -> u32
     1 + newlines(&text[..place]) as u32
 }
 
-/// Reads a program. The answer is the tree that the text spells, or the text's first fault with its line.
+/// Reads a program. Returns the tree that the text spells, or the text's first fault with its line.
 ///
 /// A program is cells, plain ones and arrays, and functions, each with its parameters. Its statements are `let`,
-/// assignments to names and to elements of arrays, calls, `out`, `sync`, `return`, the choice `if` with its `else` or
-/// without, the loop `while`, the blocks `atomic` and `spawn`, and in language 2 `cancel`. Blocks may stand in one another.
+/// assignments to names and to elements of arrays, calls, `out`, `sync`, `return`, the choice `if` with or without its
+/// `else`, the loop `while`, the blocks `atomic` and `spawn`, and in language 2 `cancel`. Blocks may be nested.
 ///
 /// A text may begin with `language`, a number and `;`: its language, 1 or 2. Without them it is of language 1.
 ///
-/// A text has at most 1,048,576 bytes, or it is `TooLong`, on line 0. Then a byte that is in no whole UTF-8 character
-/// is `NotUtf8`, wherever it stands. Only then the tokens are read one by one, up to the first that is no token
-/// (`BadChar`, `BadNumber`), that may not stand in its place (`Unexpected`) or with which the text is `TooDeep`. An
-/// array length of 0 is a `BadNumber` too.
-/// Lines are counted from 1, and the end of the text stands on its last line. `OutOfMemory` says nothing of the text.
+/// A text of more than 1,048,576 bytes is `TooLong`, on line 0. Otherwise a byte that belongs to no whole UTF-8
+/// character is `NotUtf8`, wherever it is. Only then are the tokens read one by one, up to the first that is no token
+/// (`BadChar`, `BadNumber`), is not allowed in its place (`Unexpected`) or makes the text `TooDeep`. An array length of
+/// 0 is a `BadNumber` too.
+/// Lines are counted from 1, and the end of the text is on its last line. `OutOfMemory` says nothing about the text.
 /// `read_language` refuses a language after `newest` as `Unexpected`, at its number.
 #[tactic(auto, using(crate::proofs::Readings::reading_is))]
 pub fn read_language(alloc: Global, bytes: &[u8], newest: u32) -> Result<Ast, TextRefusal>
@@ -47,7 +47,7 @@ pub fn read_language(alloc: Global, bytes: &[u8], newest: u32) -> Result<Ast, Te
     parser::source(alloc, bytes, newest)
 }
 
-/// `read_language` up to the newest one, which is 2.
+/// Like `read_language`, up to the newest language, which is 2.
 pub fn read_program(alloc: Global, bytes: &[u8]) -> Result<Ast, TextRefusal>
     ensures exact { Reads result (program 2 bytes.now) }
 {
