@@ -2,7 +2,7 @@
 use Rattle.std.specs.Prelude.{ℕ, ℤ, pos}
 use Rattle.cw_code.specs.declared.instruction.Instr.{Instr}
 
--- one without operands, whose number this is, or with one
+-- an instruction without operands, with the number n in the table
 abbrev pub plain : ℕ → Instr
 plain n = record { op = n; a = pos 0; b = 0 }
 
@@ -24,7 +24,7 @@ load = with_a 4
 abbrev pub store : ℕ → Instr
 store = with_a 6
 
--- an element of the cells from this one on, so many
+-- loads an element of the `len` cells from c on
 abbrev pub load_at : ℕ → ℕ → Instr
 load_at c len = record { op = 5; a = pos c; b = len }
 
@@ -34,7 +34,7 @@ store_at c len = record { op = 7; a = pos c; b = len }
 abbrev pub jump : ℕ → Instr
 jump = with_a 21
 
--- where the operand is 0
+-- jumps if the operand is 0
 abbrev pub jump_zero : ℕ → Instr
 jump_zero = with_a 22
 

@@ -1,4 +1,4 @@
--- The text of code: a line for each instruction, with its place, its name and the operands of its row, single spaces between them.
+-- The text of code: a line for each instruction, with its place, its name and the operands of its row, separated by single spaces.
 use Rattle.std.specs.Prelude.{ℕ, ◌+◌, List, [], ◌∷◌, ◌++◌, All, Option, Some, None, IsSome}
 use Rattle.std.specs.Fmt.{decimal, signed_decimal}
 use Rattle.cw_code.specs.declared.instruction.Instr.{Instr}
@@ -6,13 +6,13 @@ use Rattle.cw_code.specs.declared.table.Row.{Row}
 use Rattle.cw_code.specs.declared.table.Operands.{Operands}
 use Rattle.cw_code.specs.Table.{none, one, two, row_at, effect_name}
 
--- so many operands, each after a space
+-- the operands of an instruction, each after a space
 abbrev pub operands : Operands → Instr → List ℕ
 operands none i = []
 operands one i = 32 ∷ signed_decimal i.a
 operands two i = 32 ∷ (signed_decimal i.a ++ 32 ∷ decimal i.b)
 
--- an instruction by its row, after a space
+-- the name and the operands of an instruction, after a space
 abbrev pub instruction_text : Option Row → Instr → List ℕ
 instruction_text None i = []
 instruction_text (Some r) i = 32 ∷ (effect_name r.effect ++ operands r.operands i)
@@ -20,7 +20,7 @@ instruction_text (Some r) i = 32 ∷ (effect_name r.effect ++ operands r.operand
 abbrev pub instruction_line : ℕ → Instr → List ℕ
 instruction_line p i = decimal p ++ (instruction_text (row_at i.op) i ++ 10 ∷ [])
 
--- the lines of instructions that stand from a place on
+-- the lines of instructions, of which the first is at the place p
 abbrev pub lines_from : ℕ → List Instr → List ℕ
 lines_from p [] = []
 lines_from p (i ∷ is) = instruction_line p i ++ lines_from (p + 1) is

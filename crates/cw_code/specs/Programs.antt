@@ -14,19 +14,20 @@ is_cancel e = false
 abbrev pub cancels : Code → Bool
 cancels c = list_any (λ i. is_cancel (effect_of i)) c.instrs
 
--- how many elements a cell has: a plain one has one
+-- how many elements a cell has; a plain one has one
 abbrev pub count_of_elements : CellInfo → ℕ
 count_of_elements c = count c.len where
   count : ℕ → ℕ
   count zero = 1
   count (suc n) = suc n
 
--- the elements of cells have the numbers from one on, in order, up to another; the base of each cell is the number of its first element
+-- The elements of the cells have the numbers from `first` to before `past`, in order. The base of each cell is the
+-- number of its first element.
 abbrev pub AreNumbered : ℕ → List CellInfo → ℕ → Type 0
 AreNumbered first [] past = first ≡ past
 AreNumbered first (c ∷ cs) past = (c.base ≡ first) × AreNumbered (first + count_of_elements c) cs past
 
--- main is a function of the code, and the elements of the cells are numbered from 0 up to as many cells as the code may name
+-- Main is a function of the code. The elements of the cells are numbered from 0 to before the number of cells that the code may name.
 pub record IsProgramCode (code : Code) (cells : List CellInfo) (main : ℕ) : Type 0 where
   pub main_there : main < length code.funcs
   pub numbered : AreNumbered 0 cells code.cells

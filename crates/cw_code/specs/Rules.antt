@@ -10,7 +10,7 @@ use Rattle.cw_code.specs.declared.situation.Part.{Part}
 use Rattle.cw_code.specs.declared.situation.Part.TheVariants.{Block as block, Fork as forked}
 use Rattle.cw_code.specs.Table.{Effect, local, set, load, load_at, store, store_at, jump, jump_zero, call, ret, begin, end, fork, done, tick, cancel, effect_at, taken, left_there}
 
--- a natural number, or none
+-- the natural number that z is, if it is one
 abbrev pub natural : ℤ → Option ℕ
 natural (pos n) = Some n
 natural (negsuc n) = None
@@ -20,12 +20,12 @@ effect_of i = effect_at i.op
 
 -- ## Numbers and targets
 
--- a number below this
+-- the number is one of those below `count`
 abbrev pub is_number_below : ℤ → ℕ → Bool
 is_number_below (pos n) count = nat_lt n count
 is_number_below (negsuc n) count = false
 
--- so many cells from this one on
+-- the `len` cells from n on are among `count` cells
 abbrev pub cells_below : ℤ → ℕ → ℕ → Bool
 cells_below (pos n) len count = nat_lt n count && nat_le (n + len) count
 cells_below (negsuc n) len count = false
@@ -41,7 +41,7 @@ abbrev pub is_tick : Option Instr → Bool
 is_tick None = false
 is_tick (Some i) = ticks (effect_of i)
 
--- a place of the function further on, or a tick
+-- q is a later place of the function, or a tick of it
 abbrev pub is_target : Code → Func → ℕ → ℤ → Bool
 is_target c f p (pos q) = inside f q && (nat_lt p q || is_tick (slice_get c.instrs q))
 is_target c f p (negsuc n) = false
@@ -50,7 +50,7 @@ abbrev pub when : Bool → CodeKind → ℕ → List CodeFault
 when true k p = record { kind = k; at = p } ∷ []
 when false k p = []
 
--- an operand that names nothing
+-- the faults of an operand that names nothing
 abbrev pub operand_faults : Code → Func → ℕ → Instr → Option Effect → List CodeFault
 operand_faults c f p i None = when true Underflow p
 operand_faults c f p i (Some local) = when (not (is_number_below i.a f.locals)) Underflow p
@@ -71,7 +71,7 @@ abbrev pub params_of : Option Func → ℕ
 params_of None = 0
 params_of (Some f) = f.params
 
--- how many parameters the function has that a call names
+-- how many parameters the called function has
 abbrev pub called : Code → ℤ → ℕ
 called c (negsuc n) = 0
 called c (pos n) = params_of (slice_get c.funcs n)
@@ -84,7 +84,7 @@ abbrev pub pushes : Option Effect → ℕ
 pushes None = 0
 pushes (Some e) = left_there e
 
--- The height of the operands' stack, and the parts that are open, innermost first: blocks that were begun and parts that were forked.
+-- The height of the operand stack, and the open parts, innermost first: blocks that were begun and parts that were forked.
 pub record Situation : Type 0 where
   pub height : ℕ
   pub parts : List Part
@@ -102,7 +102,7 @@ is_part block block = true
 is_part forked forked = true
 is_part p q = false
 
--- how many parts of a kind are open
+-- how many parts of this kind are open
 abbrev pub parts_in : Part → List Part → ℕ
 parts_in p [] = 0
 parts_in p (q ∷ qs) = if is_part p q then parts_in p qs + 1 else parts_in p qs
@@ -113,7 +113,7 @@ blocks_in = parts_in block
 abbrev pub forks_in : List Part → ℕ
 forks_in = parts_in forked
 
--- the innermost one of a kind is ended, wherever it stands
+-- the parts without the innermost one of this kind, however deep it is
 abbrev pub without_part : Part → List Part → List Part
 without_part p [] = []
 without_part p (q ∷ qs) = if is_part p q then qs else q ∷ without_part p qs
@@ -127,7 +127,7 @@ parts_after e ps = ps
 abbrev pub passed : Code → Instr → Option Effect → Situation → Situation
 passed c i e s = record { height = s.height - pops c i e + pushes e; parts = parts_after e s.parts }
 
--- what goes on at the place after a fork is a forked part
+-- at the place behind a fork the forked part is open
 abbrev pub onwards : Code → Instr → Option Effect → Situation → Situation
 onwards c i (Some fork) s = record { height = s.height; parts = forked ∷ s.parts }
 onwards c i e s = passed c i e s
@@ -138,7 +138,7 @@ jumps (Some jump_zero) = true
 jumps (Some fork) = true
 jumps e = false
 
--- after it the place behind it is not gone on with
+-- execution never goes on at the place behind the instruction
 abbrev pub never_passed : Option Effect → Bool
 never_passed (Some jump) = true
 never_passed (Some ret) = true
@@ -149,18 +149,19 @@ abbrev pub if_inside : Func → Option ℕ → Option ℕ
 if_inside f None = None
 if_inside f (Some q) = if inside f q then Some q else None
 
--- the place of the function behind an instruction, where that is gone on with, and the one that it names as its target
+-- the place behind an instruction, if execution can go on there and it lies in the function; `target_of`: the target
+-- that the instruction names
 abbrev pub next_of : Func → ℕ → Option Effect → Option ℕ
 next_of f p e = if never_passed e then None else if_inside f (Some (p + 1))
 
 abbrev pub target_of : Func → Instr → Option Effect → Option ℕ
 target_of f i e = if jumps e then if_inside f (natural i.a) else None
 
--- by the number of the place in the function
+-- what is known of the places of a function, by their number in it
 abbrev pub Places : Type 0
 Places = List (Option Known)
 
--- of several ways into a place, the one from the smallest place counts
+-- if several ways lead into a place, the one from the smallest place counts
 abbrev pub offered : ℕ → Situation → Option Known → Option Known
 offered p s None = Some (record { from = p; situation = s })
 offered p s (Some k) = if nat_le p k.from then Some (record { from = p; situation = s }) else Some k
@@ -170,7 +171,7 @@ give f None p s t = t
 give f (Some q) p s t =
     if nat_le q f.start then t else slice_set t (q - f.start) (offered p s (slice_index_or t (q - f.start) None))
 
--- a place at which something stands gives it on
+-- a place whose situation is known gives what it leaves to the places that it leads to
 abbrev pub visit : Code → Func → ℕ → Option Instr → Option Known → Places → Places
 visit c f p None k t = t
 visit c f p (Some i) None t = t
@@ -178,14 +179,14 @@ visit c f p (Some i) (Some k) t =
     let e = effect_of i in
     give f (target_of f i e) p (passed c i e k.situation) (give f (next_of f p e) p (onwards c i e k.situation) t)
 
--- the first so many places of the function, in their order
+-- visits the first n places of the function, in order
 abbrev pub pass : Code → Func → ℕ → Places → Places
 pass c f zero t = t
 pass c f (suc n) t =
     let before = pass c f n t in
     visit c f (f.start + n) (slice_get c.instrs (f.start + n)) (slice_index_or before n None) before
 
--- after so many passes
+-- the places after n passes
 abbrev pub places_after_passes : Code → Func → ℕ → ℕ → Places → Places
 places_after_passes c f size zero t = t
 places_after_passes c f size (suc n) t = pass c f size (places_after_passes c f size n t)
@@ -197,8 +198,8 @@ begun f (suc n) = Some (record { from = f.start; situation = at_start }) ∷ rep
 abbrev pub size_of : Func → ℕ
 size_of f = f.end - f.start
 
--- What stands at the places of a function: each place gives what it leaves to the places where it leads, as often as
--- there are places, and as often again for what smaller places gave late.
+-- The situations at the places of a function. Each place gives what it leaves to the places that it leads to, in as
+-- many passes as there are places, and in as many again for what smaller places gave late.
 abbrev pub places : Code → Func → Places
 places c f = places_after_passes c f (size_of f) (size_of f + size_of f) (begun f (size_of f))
 
@@ -224,7 +225,7 @@ abbrev pub is_in_block : List Part → Bool
 is_in_block [] = false
 is_in_block (p ∷ ps) = is_part block p
 
--- a part is around an instruction that may not be, or one that has to be is not
+-- the instruction is inside a part where it is not allowed, or outside one that it needs
 abbrev pub is_torn : Option Effect → Situation → Bool
 is_torn (Some ret) s = not (blocks_in s.parts == 0) || not (forks_in s.parts == 0)
 is_torn (Some end) s = blocks_in s.parts == 0
@@ -242,12 +243,12 @@ abbrev pub same : Option Situation → Situation → Bool
 same None t = false
 same (Some s) t = (s.height == t.height) && same_parts s.parts t.parts
 
--- a way into a place, with what comes by it
+-- the fault of a way into the place q that brings another situation than is known there
 abbrev pub uneven_faults : Func → Places → Option ℕ → Situation → List CodeFault
 uneven_faults f t None s = []
 uneven_faults f t (Some q) s = when (not (same (known_at f t q) s)) Uneven q
 
--- of what stands at an instruction
+-- the faults of an instruction in its own situation
 abbrev pub faults_here : Code → Func → ℕ → Instr → Option Effect → Situation → List CodeFault
 faults_here c f p i e s =
     when (nat_lt s.height (pops c i e)) Underflow p
@@ -264,13 +265,13 @@ faults_at c f t p None s = []
 faults_at c f t p (Some i) None = operand_faults c f p i (effect_of i)
 faults_at c f t p (Some i) (Some s) = operand_faults c f p i (effect_of i) ++ situation_faults c f t p i (effect_of i) s
 
--- at the first so many places of the function
+-- the faults at the first n places of the function
 abbrev pub place_faults : Code → Func → Places → ℕ → List CodeFault
 place_faults c f t zero = []
 place_faults c f t (suc n) =
     place_faults c f t n ++ faults_at c f t (f.start + n) (slice_get c.instrs (f.start + n)) (known_at f t (f.start + n))
 
--- a function that lies where the one before it ended
+-- the function begins at `at`, where the one before it ended, and lies within the code
 abbrev pub is_laid : Code → ℕ → Func → Bool
 is_laid c at f = (f.start == at) && (nat_le f.start f.end && nat_le f.end (length c.instrs))
 
@@ -279,7 +280,8 @@ head_faults c at f =
     when (nat_lt f.locals f.params) Underflow f.start
     ++ (when (not (is_laid c at f)) JumpOut f.start ++ when (nat_le f.end f.start) NoEnd f.start)
 
--- functions behind a place; the places of a function are examined where it and all before it lie as they should
+-- The faults of functions of which the first should begin at `at`. The places of a function are examined only if it and
+-- all before it lie well.
 abbrev pub faults_from : Code → Bool → ℕ → List Func → List CodeFault
 faults_from c laid at [] = when (nat_lt at (length c.instrs)) JumpOut at
 faults_from c laid at (f ∷ fs) =
@@ -299,7 +301,7 @@ kind_number NoEnd = 4
 abbrev pub Before : CodeFault → CodeFault → Type 0
 Before a b = (a.at < b.at) ⊎ ((a.at ≡ b.at) × (kind_number a.kind ≤ kind_number b.kind))
 
--- the one of two faults that comes first, by place and at one place by kind
+-- a comes before b or with it: by place, and at one place by kind
 abbrev pub precedes : CodeFault → CodeFault → Bool
 precedes a b = nat_lt a.at b.at || ((a.at == b.at) && nat_le (kind_number a.kind) (kind_number b.kind))
 

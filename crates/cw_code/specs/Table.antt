@@ -1,4 +1,5 @@
--- The table of instructions: what each does, how many operands it has, what it takes from the operands' stack and leaves there, its name.
+-- The table of instructions: what each does, its operands, its name, and how many numbers it takes from the operand
+-- stack and leaves there.
 use Rattle.std.specs.Prelude.{ℕ, zero, suc, List, [], ◌∷◌, Option, Some, None, codes, slice_get}
 use Rattle.cw_code.specs.declared.table.Row.{Row}
 use Rattle.cw_code.specs.declared.table.Operands.{Operands}
@@ -11,7 +12,7 @@ pub use Rattle.cw_code.specs.declared.effects.Effect.TheVariants.{Push as push, 
 abbrev pub row : Operands → Effect → Row
 row operands effect = record { operands = operands; effect = effect }
 
--- number 1 stands first
+-- the first row is that of number 1
 abbrev pub rows : List Row
 rows =
     row one push
@@ -57,11 +58,11 @@ abbrev pub effect_in : Option Row → Option Effect
 effect_in None = None
 effect_in (Some r) = Some r.effect
 
--- what the instruction of this number does
+-- what the instruction with the number n does
 abbrev pub effect_at : ℕ → Option Effect
 effect_at n = effect_in (row_at n)
 
--- how many numbers an effect takes from the stack, where a call takes so many, and how many it leaves there
+-- how many numbers an effect takes from the stack; a call takes `params`
 abbrev pub taken : Effect → ℕ → ℕ
 taken push params = 0
 taken local params = 0

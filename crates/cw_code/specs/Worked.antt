@@ -31,24 +31,24 @@ pub record Verdicts : Type 0 where
   pub to_itself : faults (code (jump 0 ∷ [])) ≡ fault JumpOut 0 ∷ []
   pub to_a_tick : faults (code (tick ∷ jump 0 ∷ [])) ≡ []
   pub no_index : faults (code (record { op = 5; a = pos 0; b = 4 } ∷ ret ∷ [])) ≡ fault JumpOut 0 ∷ fault Underflow 0 ∷ []
-  -- a tick that is entered from behind alone, and a way round that grows
+  -- A tick is entered only by a backward jump. Then a loop in which the stack grows.
   pub from_behind : faults (code (jump 3 ∷ tick ∷ ret ∷ push (pos 0) ∷ jump 1 ∷ [])) ≡ []
   pub growing : faults (code (tick ∷ push (pos 3) ∷ jump 0 ∷ [])) ≡ fault Uneven 0 ∷ []
-  -- a fork to the place behind it
+  -- A fork to the place behind it
   pub to_the_next : faults (code (fork 1 ∷ done ∷ [])) ≡ fault Uneven 1 ∷ fault Uneven 1 ∷ []
-  -- blocks that are given up
+  -- blocks that are cancelled
   pub outside : faults (code (cancel ∷ push (pos 0) ∷ ret ∷ [])) ≡ fault Uneven 0 ∷ []
   pub given_up : faults (code (begin ∷ cancel ∷ end ∷ push (pos 0) ∷ ret ∷ [])) ≡ []
   pub operand_left : faults (code (begin ∷ push (pos 1) ∷ cancel ∷ discard ∷ end ∷ push (pos 0) ∷ ret ∷ [])) ≡ fault Uneven 2 ∷ []
   pub in_fork : faults (code (begin ∷ fork 4 ∷ cancel ∷ done ∷ end ∷ push (pos 0) ∷ ret ∷ [])) ≡ fault Uneven 2 ∷ []
   pub block_in_fork : faults (code (fork 5 ∷ begin ∷ cancel ∷ end ∷ done ∷ push (pos 0) ∷ ret ∷ [])) ≡ []
-  -- an end of the block around a forked part
+  -- inside a forked part the block around it is ended
   pub from_under : faults (code (begin ∷ fork 6 ∷ end ∷ begin ∷ cancel ∷ done ∷ end ∷ push (pos 0) ∷ ret ∷ [])) ≡ []
   pub nothing_behind : faults (code (begin ∷ cancel ∷ [])) ≡ fault NoEnd 1 ∷ []
   -- as many blocks and forked parts, in another order
   pub other_order : faults (code (push (pos 1) ∷ jump_zero 5 ∷ begin ∷ fork 9 ∷ jump 7 ∷ fork 10 ∷ begin ∷ end ∷ done ∷ end ∷ push (pos 0) ∷ ret ∷ [])) ≡ fault Uneven 7 ∷ []
   pub no_function : faults (record { cells = 0; funcs = []; instrs = tick ∷ [] }) ≡ fault JumpOut 0 ∷ []
-  -- an instruction that is none
+  -- there is no such instruction
   pub unknown : faults (code (plain 34 ∷ ret ∷ [])) ≡ fault Underflow 0 ∷ fault Underflow 1 ∷ []
 
 pub record Texts : Type 0 where

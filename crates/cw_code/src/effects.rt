@@ -1,4 +1,4 @@
-/// The arithmetic of an instruction: of one operand for `Neg` and `Not`, of two for the others.
+/// The arithmetic of an instruction. `Neg` and `Not` have one operand, the others two.
 #[derive(Clone, Copy, PartialEq, Eq, Debug)]
 pub enum Operator {
     Add,

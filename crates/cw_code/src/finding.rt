@@ -10,7 +10,7 @@ use crate::{judging, table};
 use cw_base::OutOfMemory;
 use std::alloc::Global;
 
-/// Whether this is what stands at a place.
+/// Whether `known` and `level` are the same situation.
 fn is_same(nestings: &Nestings, known: Option<Level>, level: &Level) -> bool
     requires known { IsBelow (length nestings.now) known }
     requires level { level.now.nesting < length nestings.now }
@@ -22,7 +22,7 @@ fn is_same(nestings: &Nestings, known: Option<Level>, level: &Level) -> bool
     }
 }
 
-/// What is kept of a place of the function.
+/// The level that is kept for `place` of the function.
 fn kept(func: &Func, places: &[Option<Arrival>], place: u32) -> Option<Level>
     requires { (func.now.start ≤ place) × (place < func.now.end) × (length places.now ≡ size_of func.now) }
     ensures { result ≡ level_on_arrival (slice_index_or places.now (place - func.now.start) None) }
@@ -33,7 +33,7 @@ fn kept(func: &Func, places: &[Option<Arrival>], place: u32) -> Option<Level>
     }
 }
 
-/// What is broken where a way comes into a place.
+/// Notes in `best` a fault if `level`, which comes into the place `to`, differs from what is kept there.
 fn judge_way(
     best: Option<CodeFault>,
     nestings: &Nestings,
@@ -58,7 +58,7 @@ fn judge_way(
     }
 }
 
-/// Whether a place is the last one of the function.
+/// Whether `place` is the last one of the function.
 fn is_last(func: &Func, place: u32) -> bool
     requires { place < func.now.end }
     ensures { result ≡ (place + 1 == func.now.end) }
@@ -67,7 +67,7 @@ fn is_last(func: &Func, place: u32) -> bool
     place + 1 == end
 }
 
-/// All that is broken of what stands at an instruction.
+/// Notes in `best` what is broken at an instruction in its own situation.
 #[tactic(auto, using(crate::proofs::Fold::earliest_append))]
 fn judge_here(
     best: Option<CodeFault>,
@@ -108,7 +108,7 @@ fn judge_here(
     )
 }
 
-/// All that is broken of what stands at an instruction, and of what it leaves to the places where it leads.
+/// Notes in `best` what is broken at an instruction in its situation, and at the places that it leads to.
 #[tactic(auto, using(crate::proofs::Fold::earliest_append, crate::proofs::Fold::next_inside, crate::proofs::Fold::target_inside))]
 fn judge_level(
     best: Option<CodeFault>,
@@ -136,7 +136,7 @@ fn judge_level(
     Ok(judge_way(best, nestings, func, places, target, &away))
 }
 
-/// All that is broken at one place.
+/// Notes in `best` all that is broken at `place`.
 #[tactic(auto, using(crate::proofs::Fold::earliest_append))]
 fn judge_place(
     best: Option<CodeFault>,
@@ -166,7 +166,7 @@ fn judge_place(
     }
 }
 
-/// All that is broken at the places of a function.
+/// Notes in `best` all that is broken at the places of a function.
 #[tactic(auto, using(crate::proofs::Fold::earliest_append))]
 fn judge_places(
     best: Option<CodeFault>,
@@ -186,7 +186,7 @@ fn judge_places(
     Ok(first)
 }
 
-/// A place gets what another gives it, unless a smaller one gave.
+/// Offers `level`, which comes from `place`, to the place `to`. That keeps what a smaller place gave.
 fn offer(func: &Func, to: Option<u32>, place: u32, level: Level, places: &mut [Option<Arrival>])
     requires { (length places.old ≡ size_of func.now) × ((target : ℕ) → to ≡ Some target → (func.now.start ≤ target) × (target < func.now.end)) }
     ensures { places.new ≡ give_level func.now to place level places.old }
@@ -209,7 +209,7 @@ fn offer(func: &Func, to: Option<u32>, place: u32, level: Level, places: &mut [O
     }
 }
 
-/// A place gives what stands there to the places where it leads.
+/// Gives what the instruction at the function's place `n` leaves to the places that it leads to.
 #[tactic(auto, using(crate::proofs::Fold::next_inside, crate::proofs::Fold::target_inside))]
 fn visit_place(
     nestings: &mut Nestings,
@@ -255,7 +255,7 @@ fn visit_place(
     }
 }
 
-/// Each place once.
+/// Visits each place of the function once.
 #[tactic(auto, using(crate::proofs::Seen::below_grown))]
 fn pass_places(
     nestings: &mut Nestings,
@@ -276,7 +276,7 @@ fn pass_places(
     Ok(())
 }
 
-/// Whether two places are the same, in what stands there and in who gave it.
+/// Whether two places have the same level, from the same place.
 fn is_like(a: Option<Arrival>, b: Option<Arrival>) -> bool
     ensures same { result ≡ true → a ≡ b }
     ensures told { a ≡ b → result ≡ true }
@@ -292,7 +292,7 @@ fn is_like(a: Option<Arrival>, b: Option<Arrival>) -> bool
     }
 }
 
-/// Whether all places of two are the same.
+/// Whether all places of `a` and `b` are alike.
 #[tactic(auto, using(crate::proofs::Seen::same_elements))]
 fn are_equal(a: &[Option<Arrival>], b: &[Option<Arrival>]) -> bool
     ensures same { result ≡ true → a.now ≡ b.now }
@@ -309,7 +309,7 @@ fn are_equal(a: &[Option<Arrival>], b: &[Option<Arrival>]) -> bool
     true
 }
 
-/// At the start of a function nothing stands yet.
+/// Returns the places of a function before the first pass: only its start has a level.
 #[tactic(auto, using(crate::proofs::Seen::more_none))]
 fn begin(func: &Func, size: u32, alloc: Global) -> Result<Vec<Option<Arrival>>, OutOfMemory>
     ensures { IfOk result (λ t. t.items ≡ none_yet func.now size) }
@@ -332,7 +332,7 @@ fn begin(func: &Func, size: u32, alloc: Global) -> Result<Vec<Option<Arrival>>, 
     Ok(places)
 }
 
-/// Each place once, and whether that changed nothing.
+/// Visits each place once. Returns whether that changed nothing.
 fn turn(
     nestings: &mut Nestings,
     code: &Code,
@@ -354,7 +354,7 @@ fn turn(
     Ok(are_equal(places, &before))
 }
 
-/// What stands at the places of a function.
+/// Returns the situations at the places of a function.
 fn situations(
     nestings: &mut Nestings,
     code: &Code,
@@ -377,14 +377,14 @@ fn situations(
     Ok(places)
 }
 
-/// Whether a function lies where the one before it ended.
+/// Whether the function begins at `at`, where the one before it ended, and lies within the code.
 fn lies_well(code: &Code, at: u32, func: &Func) -> bool
     ensures { result ≡ is_laid code.now at func.now }
 {
     func.start == at && func.start <= func.end && func.end as usize <= code.instrs.len()
 }
 
-/// What is broken of a function as a whole.
+/// Notes in `best` what is broken of a function as a whole.
 #[tactic(auto, using(crate::proofs::Fold::earliest_append))]
 fn judge_head(best: Option<CodeFault>, code: &Code, at: u32, func: &Func) -> Option<CodeFault>
     ensures { result ≡ earliest best (head_faults code.now at func.now) }
@@ -404,7 +404,7 @@ fn judge_head(best: Option<CodeFault>, code: &Code, at: u32, func: &Func) -> Opt
     judging::note(best, func.end <= func.start, CodeKind::NoEnd, func.start)
 }
 
-/// What is broken at the places of a function.
+/// Notes in `best` what is broken at the places of a function.
 fn judge_body(
     best: Option<CodeFault>,
     code: &Code,
@@ -419,7 +419,7 @@ fn judge_body(
     judge_places(best, &mut nestings, code, func, &places)
 }
 
-/// What is broken of a function and at its places.
+/// Notes in `best` what is broken of a function, and at its places if it and all before it lie well.
 #[tactic(auto, using(crate::proofs::Fold::earliest_append))]
 fn judge_function(
     best: Option<CodeFault>,
@@ -440,7 +440,7 @@ fn judge_function(
     }
 }
 
-/// Whether a function and all before it lie as they should.
+/// Whether the function and all before it lie well. `laid` says it of those before it.
 fn is_well(laid: bool, code: &Code, at: u32, func: &Func) -> bool
     ensures value { result ≡ (laid && is_laid code.now at func.now) }
     ensures range { result ≡ true → func.now.start ≤ func.now.end }
@@ -448,7 +448,7 @@ fn is_well(laid: bool, code: &Code, at: u32, func: &Func) -> bool
     laid && lies_well(code, at, func)
 }
 
-/// The first fault of code.
+/// Returns the first fault of the code, or `None` if it breaks no rule.
 #[tactic(auto, using(crate::proofs::Fold::next_function))]
 pub fn first_fault(code: &Code, alloc: Global) -> Result<Option<CodeFault>, OutOfMemory>
     ensures { IfOk result (λ r. r ≡ earliest None (faults code.now)) }

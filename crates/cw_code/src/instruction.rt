@@ -28,14 +28,14 @@ pub struct Code {
 }
 
 impl Code {
-    /// The instruction at a place.
+    /// The instruction at `place`.
     pub fn instr(&self, place: u32) -> Option<Instr>
         ensures { result ≡ slice_get self.now.instrs place }
     {
         self.instrs.as_slice().get(place as usize).copied()
     }
 
-    /// The function with a number.
+    /// The function with the number `number`.
     pub fn func(&self, number: u64) -> Option<Func>
         ensures { result ≡ slice_get self.now.funcs number }
     {
@@ -46,13 +46,13 @@ impl Code {
 /// What is wrong at a place of code.
 #[derive(Clone, Copy, PartialEq, Eq, Debug)]
 pub enum CodeKind {
-    /// An operand or a local is missing, or the instruction is none.
+    /// An operand or a local is missing, or there is no such instruction.
     Underflow = 1,
-    /// Two ways into the place bring different heights or open parts, or what is around it may not be there.
+    /// Two ways into the place bring different heights or open parts, or the instruction is not allowed inside the open parts.
     Uneven = 2,
-    /// A target, a function or a cell is not there, or a function does not lie behind the one before it.
+    /// A target, a function or a cell does not exist, or a function does not begin where the one before it ended.
     JumpOut = 3,
-    /// The end of a function can be passed, or it is empty.
+    /// The end of a function can be passed, or the function is empty.
     NoEnd = 4,
 }
 

@@ -10,14 +10,14 @@ use crate::situation::{Level, Part};
 use crate::table;
 use cw_base::OutOfMemory;
 
-/// The number of a kind, by which kinds at one place come.
+/// The number of a kind. Kinds at one place are ordered by it.
 fn number(kind: CodeKind) -> u8
     ensures { result ≡ kind_number kind }
 {
     kind as u8
 }
 
-/// The first of two faults.
+/// Returns the first of two faults.
 fn first_of(best: Option<CodeFault>, fault: CodeFault) -> Option<CodeFault>
     ensures { result ≡ earlier best fault }
 {
@@ -33,7 +33,7 @@ fn first_of(best: Option<CodeFault>, fault: CodeFault) -> Option<CodeFault>
     }
 }
 
-/// The first fault so far.
+/// Returns the first of `best` and, if `broken`, the fault of this kind at `at`.
 pub fn note(best: Option<CodeFault>, broken: bool, kind: CodeKind, at: u32) -> Option<CodeFault>
     ensures { result ≡ earliest best (when broken kind at) }
 {
@@ -44,7 +44,7 @@ pub fn note(best: Option<CodeFault>, broken: bool, kind: CodeKind, at: u32) -> O
     }
 }
 
-/// Whether a number names one of so many.
+/// Whether `a` is the number of one of `count` things.
 pub fn is_below(a: i64, count: usize) -> bool
     ensures { result ≡ is_number_below a count }
 {
@@ -54,7 +54,7 @@ pub fn is_below(a: i64, count: usize) -> bool
     }
 }
 
-/// Whether so many from a number on are among so many.
+/// Whether the `len` cells from number `a` on are among `count` cells.
 pub fn are_below(a: i64, len: u32, count: u32) -> bool
     ensures { result ≡ cells_below a len count }
 {
@@ -64,14 +64,14 @@ pub fn are_below(a: i64, len: u32, count: u32) -> bool
     }
 }
 
-/// Whether a place is one of the function.
+/// Whether `place` lies in the function.
 pub fn lies_inside(func: &Func, place: u32) -> bool
     ensures { result ≡ inside func.now place }
 {
     func.start <= place && place < func.end
 }
 
-/// Whether there is a `tick`.
+/// Whether the instruction is a `tick`.
 fn stands_tick(instr: Option<Instr>) -> bool
     ensures { result ≡ is_tick instr }
 {
@@ -84,7 +84,7 @@ fn stands_tick(instr: Option<Instr>) -> bool
     }
 }
 
-/// Whether a number is a place of the function further on, or a `tick` of it.
+/// Whether `a` is a target that `place` may have: a later place of the function, or a `tick` of it.
 pub fn has_target(code: &Code, func: &Func, place: u32, a: i64) -> bool
     ensures { result ≡ is_target code.now func.now place a }
 {
@@ -101,7 +101,7 @@ pub fn has_target(code: &Code, func: &Func, place: u32, a: i64) -> bool
     }
 }
 
-/// What is broken of the operands of an instruction.
+/// Notes in `best` what is broken of the operands of an instruction.
 pub fn operand(
     best: Option<CodeFault>,
     code: &Code,
@@ -151,7 +151,7 @@ pub fn operand(
     }
 }
 
-/// How many numbers an effect takes, where a call takes so many.
+/// How many numbers an effect takes from the stack. A call takes `params`.
 fn takes(effect: Effect, params: u32) -> u32
     ensures { result ≡ taken effect params }
 {
@@ -170,7 +170,7 @@ fn takes(effect: Effect, params: u32) -> u32
     }
 }
 
-/// How many numbers an effect leaves.
+/// How many numbers an effect leaves on the stack.
 fn leaves(effect: Effect) -> u32
     ensures { result ≡ left_there effect }
 {
@@ -186,7 +186,7 @@ fn leaves(effect: Effect) -> u32
     }
 }
 
-/// How many parameters the function has that a call names.
+/// How many parameters the function with the number `a` has, or 0 if there is none.
 fn params(code: &Code, a: i64) -> u32
     ensures { result ≡ called code.now a }
 {
@@ -199,7 +199,7 @@ fn params(code: &Code, a: i64) -> u32
     }
 }
 
-/// What an instruction pops.
+/// How many numbers an instruction pops.
 pub fn popped(code: &Code, instr: Instr, effect: Option<Effect>) -> u32
     ensures { result ≡ pops code.now instr effect }
 {
@@ -209,7 +209,7 @@ pub fn popped(code: &Code, instr: Instr, effect: Option<Effect>) -> u32
     }
 }
 
-/// The height that an instruction leaves of one. A height beyond all numbers is want of memory.
+/// The height of the stack after an instruction, from its height before. A height over the greatest `u64` is reported as out of memory.
 fn height_after(
     code: &Code,
     instr: Instr,
@@ -228,7 +228,7 @@ fn height_after(
         .ok_or(OutOfMemory)
 }
 
-/// The parts that an instruction leaves open.
+/// The nesting of the parts that are open after an instruction.
 fn nesting_after(
     nestings: &mut Nestings,
     effect: Option<Effect>,
@@ -247,7 +247,7 @@ fn nesting_after(
     }
 }
 
-/// What an instruction leaves of what stands at it.
+/// The level after an instruction, from the level at it.
 pub fn after(
     nestings: &mut Nestings,
     code: &Code,
@@ -265,7 +265,7 @@ pub fn after(
     Ok(Level { height, nesting })
 }
 
-/// What stands at the place behind an instruction.
+/// The level at the place behind an instruction. Behind a fork the forked part is open.
 pub fn ahead(
     nestings: &mut Nestings,
     code: &Code,
@@ -290,7 +290,7 @@ pub fn ahead(
     }
 }
 
-/// Whether the place behind an instruction is not gone on with.
+/// Whether execution never goes on at the place behind the instruction.
 pub fn is_left(effect: Option<Effect>) -> bool
     ensures { result ≡ never_passed effect }
 {
@@ -324,7 +324,7 @@ pub fn borders(effect: Option<Effect>) -> bool
     }
 }
 
-/// Whether a block or a forked part is around an instruction that may not be, or is not around one that needs it.
+/// Whether the instruction is inside a part where it is not allowed, or outside one that it needs.
 pub fn tears(nestings: &Nestings, effect: Option<Effect>, level: &Level) -> bool
     requires { level.now.nesting < length nestings.now }
     ensures { result ≡ is_torn effect (situation_at nestings.now level.now) }
@@ -339,7 +339,7 @@ pub fn tears(nestings: &Nestings, effect: Option<Effect>, level: &Level) -> bool
     }
 }
 
-/// The place behind an instruction, where that is gone on with and in the function.
+/// The place behind an instruction, if execution can go on there and it lies in the function.
 pub fn next(func: &Func, place: u32, effect: Option<Effect>) -> Option<u32>
     requires { place < func.now.end }
     ensures { result ≡ next_of func.now place effect }
@@ -351,7 +351,7 @@ pub fn next(func: &Func, place: u32, effect: Option<Effect>) -> Option<u32>
     }
 }
 
-/// The target of an instruction, where it has one and that is in the function.
+/// The target of an instruction, if it has one that lies in the function.
 pub fn target(func: &Func, instr: Instr, effect: Option<Effect>) -> Option<u32>
     ensures { result ≡ target_of func.now instr effect }
 {

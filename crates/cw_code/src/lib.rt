@@ -1,9 +1,9 @@
-//! What compiled code is: its instructions and their table, the rules that it keeps, its text, and programs; and beside them plain types that
-//! several layers name: run faults, limits, cells.
-//! Stands on `cw_base`.
-//! Contracts cite `specs/Table.antt` (instructions), `specs/Rules.antt` (the rules, as the list of what is broken), `specs/Answers.antt`
-//! (what the verifier answers), `specs/Nested.antt` (how it keeps what stands at a place), `specs/Printed.antt` (texts) and
-//! `specs/Programs.antt` (programs). `Worked` tries them.
+//! What compiled code is: its instructions and their table, the rules that it keeps, its text, and programs. The crate
+//! also has plain types that several layers share: run faults, limits, cells. Use `verify` to have code checked against
+//! the rules.
+//! Contracts cite `specs/Table.antt` (instructions), `specs/Rules.antt` (the rules, as the list of what is broken),
+//! `specs/Answers.antt` (what the verifier returns), `specs/Nested.antt` (how it keeps situations),
+//! `specs/Printed.antt` (texts) and `specs/Programs.antt` (programs). `Worked` tries them.
 #![tactic(auto)]
 
 ghost use Rattle.cw_code.specs.Worked.{Verdicts, Texts};
@@ -38,8 +38,8 @@ pub enum FaultKind {
     Size = 6,
 }
 
-/// The limits of a run: units of fuel and counted things of a strand, attempts of an atomic block or an access,
-/// strand columns, moves of a simulation.
+/// The limits of a run: units of fuel and counted things of a strand, attempts of an atomic block or an access, strand
+/// columns, moves of a simulation.
 #[derive(Clone, Copy, PartialEq, Eq, Debug)]
 pub struct Limits {
     pub fuel: u64,
@@ -49,15 +49,14 @@ pub struct Limits {
     pub moves: u64,
 }
 
-/// A cell, and the value that a block that is given up puts back there.
+/// A cell, and the value that a cancelled block puts back there.
 #[derive(Clone, Copy, PartialEq, Eq, Debug)]
 pub struct Back {
     pub cell: u32,
     pub value: i64,
 }
 
-/// A cell: its name, its number of elements, or 0 for a plain one, the number of its first element, and the
-/// value that each element has at first.
+/// A cell: its name, its number of elements (0 for a plain one), the number of its first element, and the initial value of each element.
 #[derive(Drop)]
 pub struct CellInfo {
     pub name: Text,
@@ -66,7 +65,7 @@ pub struct CellInfo {
     pub init: i64,
 }
 
-/// What the rules and the text of small pieces of code are.
+/// The verdicts and the texts of small pieces of code.
 pub fn worked_code()
     ensures verdicts { Verdicts }
     ensures texts { Texts }

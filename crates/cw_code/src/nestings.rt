@@ -7,8 +7,8 @@ use cw_base::OutOfMemory;
 use std::alloc::Global;
 use std::marker::Model;
 
-/// A row of the table of nestings: the innermost part, the number of the nesting around it, and those of the nestings with a block and with a
-/// forked part in this one, or 0.
+/// A row of the table of nestings: the innermost part, and the number of the nesting around it. `block` and `fork` are
+/// the numbers of the nestings with a block or a forked part within it, or 0.
 #[derive(Clone, Copy, PartialEq, Eq, Debug)]
 pub struct Nesting {
     pub part: Part,
@@ -17,7 +17,7 @@ pub struct Nesting {
     pub fork: u32,
 }
 
-/// A table in which each nesting of open parts stands once, so that its number tells which it is. Number 0 is no part.
+/// A table in which each nesting of open parts occurs once, so that its number identifies it. In nesting 0 no part is open.
 #[derive(Drop)]
 pub struct Nestings {
     rows: Vec<Nesting>,
@@ -33,7 +33,7 @@ impl Model for Nestings {
     ghost invariant = { λ t. IsTable t.rows.items };
 }
 
-/// Whether two parts are of one kind.
+/// Whether two parts are of the same kind.
 fn is_part(part: Part, other: Part) -> bool
     ensures { result ≡ is_part part other }
 {
@@ -49,7 +49,7 @@ fn is_part(part: Part, other: Part) -> bool
     }
 }
 
-/// The kind of part that this one is not.
+/// The kind of part other than `part`.
 fn other_kind(part: Part) -> Part
     ensures { is_part part result ≡ false }
 {
@@ -59,7 +59,7 @@ fn other_kind(part: Part) -> Part
     }
 }
 
-/// The number of the nesting that has a part of a kind in this one, or 0.
+/// The number of the nesting with a part of this kind within `row`, or 0.
 fn child(row: &Nesting, part: Part) -> u32
     ensures { result ≡ child part row.now }
 {
@@ -69,7 +69,7 @@ fn child(row: &Nesting, part: Part) -> u32
     }
 }
 
-/// The row with such a number.
+/// The row with `number` as its nesting with a part of this kind within.
 fn with_child(row: Nesting, part: Part, number: u32) -> Nesting
     ensures { result ≡ with_child part number row }
 {
@@ -85,7 +85,7 @@ fn with_child(row: Nesting, part: Part, number: u32) -> Nesting
     }
 }
 
-/// The row of a number.
+/// The row with the number `number`.
 fn row_of(rows: &[Nesting], number: u32) -> Nesting
     requires { number < length rows.now }
     ensures { slice_get rows.now number ≡ Some result }
@@ -93,7 +93,7 @@ fn row_of(rows: &[Nesting], number: u32) -> Nesting
     rows[number as usize]
 }
 
-/// One row more, which the row around it leads to.
+/// Adds a row for `part` within `outer`, and enters its number in the row of `outer`.
 fn add(rows: &mut Vec<Nesting>, outer: u32, part: Part) -> Result<u32, OutOfMemory>
     requires { outer < length rows.old.items }
     ensures err { OnErr result (rows.new.items ≡ rows.old.items) }
@@ -113,7 +113,7 @@ fn add(rows: &mut Vec<Nesting>, outer: u32, part: Part) -> Result<u32, OutOfMemo
 }
 
 impl Nestings {
-    /// No part is open.
+    /// Returns the table in which no part is open.
     pub fn new(alloc: Global) -> Result<Nestings, OutOfMemory>
         ensures { IfOk result (λ t. t ≡ [] ∷ []) }
     {
@@ -127,7 +127,7 @@ impl Nestings {
         Ok(Nestings { rows })
     }
 
-    /// Whether two numbers stand for the same parts.
+    /// Whether two numbers name the same parts.
     pub fn are_same(&self, one: u32, other: u32) -> bool
         requires { (one < length self.now) × (other < length self.now) }
         ensures { result ≡ same_parts (parts_at self.now one) (parts_at self.now other) }
@@ -136,7 +136,7 @@ impl Nestings {
         one == other
     }
 
-    /// The innermost part of a nesting, with the number of what is around it. No part is open where there is none.
+    /// The innermost part of a nesting with the number of the nesting around it, or `None` if no part is open.
     fn innermost(&self, number: u32) -> Option<Nesting>
         requires { number < length self.now }
         ensures none { result ≡ None → parts_at self.now number ≡ [] }
@@ -161,7 +161,7 @@ impl Nestings {
         }
     }
 
-    /// Whether a part of a kind is open.
+    /// Whether a part of this kind is open.
     pub fn holds(&self, number: u32, part: Part) -> bool
         requires { number < length self.now }
         ensures { result ≡ not (parts_in part (parts_at self.now number) == 0) }
@@ -176,7 +176,7 @@ impl Nestings {
         false
     }
 
-    /// A part within a nesting.
+    /// Returns the nesting with `part` within `number`.
     pub fn within(&mut self, number: u32, part: Part) -> Result<u32, OutOfMemory>
         requires { number < length self.old }
         ensures grown { IsGrown self.old self.new }
@@ -191,7 +191,7 @@ impl Nestings {
         }
     }
 
-    /// So many parts of a kind within a nesting.
+    /// Returns the nesting with `count` parts of one kind within `number`.
     fn again(&mut self, number: u32, part: Part, count: u32) -> Result<u32, OutOfMemory>
         requires { number < length self.old }
         ensures grown { IsGrown self.old self.new }
@@ -205,7 +205,7 @@ impl Nestings {
         Ok(inner)
     }
 
-    /// A nesting without its innermost part of a kind, wherever that stands.
+    /// Returns the nesting without its innermost part of this kind, however deep that is.
     pub fn without(&mut self, number: u32, part: Part) -> Result<u32, OutOfMemory>
         requires { number < length self.old }
         ensures grown { IsGrown self.old self.new }

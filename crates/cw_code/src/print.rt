@@ -55,7 +55,7 @@ fn effect_name(effect: Effect) -> &'static str
     }
 }
 
-// The line of an instruction with its row.
+// The line of an instruction, given its row in the table.
 fn row_line(alloc: Global, place: usize, row: &Row, instr: &Instr) -> Result<String, OutOfMemory>
     requires { row_at instr.now.op ≡ Some row.now }
     ensures { IfOk result (λ text. string_bytes text ≡ instruction_line place instr.now) }
@@ -82,7 +82,7 @@ fn push_line(text: &mut Vec<u8>, place: usize, instr: &Instr) -> Result<(), OutO
     }
 }
 
-/// The text of code: a line for each instruction.
+/// Returns the text of code: a line for each instruction.
 pub fn print_code(alloc: Global, code: &Code) -> Result<Vec<u8>, OutOfMemory>
     requires { HaveRows code.now.instrs }
     ensures { IfOk result (λ text. text.items ≡ lines_from 0 code.now.instrs) }

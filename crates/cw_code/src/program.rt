@@ -15,7 +15,7 @@ pub struct Program {
     pub ghost whole: { ∥ IsProgramCode code cells main ∥₁ },
 }
 
-/// Whether an instruction gives up a block.
+/// Whether an instruction is a `cancel`.
 fn is_cancel(instr: &Instr) -> bool
     ensures { result ≡ is_cancel (effect_of instr.now) }
 {
@@ -26,7 +26,7 @@ fn is_cancel(instr: &Instr) -> bool
 }
 
 impl Program {
-    /// Whether an instruction of the code gives up a block, reached or not.
+    /// Whether the code contains a `cancel`, reached or not.
     pub fn cancels(&self) -> bool
         ensures { result ≡ cancels self.now.code }
     {

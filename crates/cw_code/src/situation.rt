@@ -5,7 +5,7 @@ pub enum Part {
     Fork,
 }
 
-/// What stands at a place: the height of the operand stack, and the number of the nesting of the parts that are open.
+/// The situation at a place: the height of the operand stack, and the number of the nesting of the open parts.
 #[derive(Clone, Copy, PartialEq, Eq, Debug)]
 pub struct Level {
     pub height: u64,

@@ -65,7 +65,7 @@ pub struct Row {
 pub const TABLE: [Row; 33] =
     rows!(push One, local One, set One, load One, loadx Two, store One, storex Two, add Zero, sub Zero, mul Zero, div Zero, rem Zero, neg Zero, not Zero, eq Zero, ne Zero, lt Zero, le Zero, gt Zero, ge Zero, jump One, jumpz One, call One, ret Zero, drop Zero, out Zero, begin Zero, end Zero, fork One, sync Zero, done Zero, tick Zero, cancel Zero);
 
-/// The row of a number in a table that counts from 1.
+/// The row with the number `op` in a table that counts from 1.
 pub fn look_up<const N: usize>(rows: &[Row; N], op: u8) -> Option<Row>
     ensures found { 0 < op → result ≡ slice_get rows.now (op - 1) }
     ensures none { op ≡ 0 → result ≡ None }
@@ -76,14 +76,14 @@ pub fn look_up<const N: usize>(rows: &[Row; N], op: u8) -> Option<Row>
     rows.get(op as usize - 1).copied()
 }
 
-/// The row of the instruction with this number.
+/// The row of the instruction with the number `op`.
 pub fn row_at(op: u8) -> Option<Row>
     ensures { result ≡ row_at op }
 {
     look_up(&TABLE, op)
 }
 
-/// What the instruction with this number does.
+/// What the instruction with the number `op` does.
 pub fn effect_at(op: u8) -> Option<Effect>
     ensures { result ≡ effect_at op }
 {

@@ -27,7 +27,7 @@ impl Model for Verified {
 }
 
 impl Verified {
-    /// The code, which breaks no rule.
+    /// Returns the code, which breaks no rule.
     pub fn code(&self) -> &Code
         ensures code { result.now ≡ self.now }
         ensures sound { faults result.now ≡ [] }
@@ -43,7 +43,7 @@ pub enum CodeRefusal {
     OutOfMemory,
 }
 
-/// The code, if it breaks no rule, and else the first rule that it breaks: by place, and at one place by kind.
+/// Returns the code if it breaks no rule, otherwise the first rule that it breaks: by place, and at one place by kind.
 pub fn verify(alloc: Global, code: Code) -> Result<Verified, CodeRefusal>
     ensures { Answers code result }
 {
