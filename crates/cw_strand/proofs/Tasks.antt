@@ -1,4 +1,4 @@
--- The instrs goes on with each task of the syntax that is no statement.
+-- The code goes on with each task of the syntax that is no statement.
 use Rattle.std.proofs.Common.{◌≡◌, ◌∙◌, Bool, true, false, ℕ, zero, suc, ◌+◌, ◌-◌, ◌<◌, ◌≤◌, List, [], ◌∷◌, ◌++◌, length, drop, refl, sym, ap, subst, arith, Option, Some, None, Result, Ok, Err, ℤ, pos, negsuc, inl, inr, length-append}
 use Rattle.std.specs.Prelude.{slice_get, slice_set, if◌then◌else◌, nat_le, nat_lt}
 use Rattle.std.proofs.lemmas.Option.{slice_get_within}

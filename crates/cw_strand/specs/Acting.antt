@@ -1,4 +1,4 @@
--- What a step leads to, as the code tells it.
+-- What a step leads to, in the words of the code.
 use Rattle.std.specs.Prelude.{◌≡◌, ◌<◌, ◌≤◌, ◌+◌, ◌^◌, ℕ, [], ◌∷◌, length, drop, slice_get, Some}
 use Rattle.cw_code.specs.declared.instruction.Func.{Func}
 use Rattle.cw_code.specs.declared.instruction.Instr.{Instr}
@@ -15,16 +15,16 @@ abbrev pub led_to : Led → State → Step
 led_to On s = on s
 led_to (Wants w) s = wants w s
 
--- An instruction with this effect, with the place behind it, takes a strand from one state to another.
+-- An instruction with the effect e takes a strand from the state s to t, where p is the place behind it and l is what it leads to.
 abbrev pub TakesEffect : Code → Effect → Instr → ℕ → State → Led → State → Type 0
 TakesEffect code e i p s l t = act code e i p s.current.operands s ≡ led_to l t
 
--- the arguments are there, and are among the function's locals
+-- the arguments are there, and there are at least as many locals
 pub record HasArguments (f : Func) (s : State) : Type 0 where
   pub room : f.params ≤ length s.current.operands
   pub fits : f.params ≤ f.locals
 
--- the function has begun, and the one that called it waits, to go on at this place
+-- the function has begun, and its caller waits, to go on at the place p
 abbrev pub function_entered : Func → ℕ → State → State
 function_entered f p s = record s {
   current = record { place = f.start; operands = []; locals = locals_for f s.current.operands };

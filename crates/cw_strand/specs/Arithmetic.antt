@@ -17,18 +17,18 @@ truth false = Ok (pos 0)
 abbrev pub is_zero : ℤ → Bool
 is_zero z = int_eq z (pos 0)
 
--- a number, where another result is none that is a fault
+-- the number z, unless the other result is a fault
 abbrev pub unless_fault : ℤ → Result ℤ FaultKind → Result ℤ FaultKind
 unless_fault z (Ok q) = Ok z
 unless_fault z (Err k) = Err k
 
--- an operator of one operand; one of two changes nothing
+-- a unary operator; a binary one changes nothing here
 abbrev pub one : Operator → ℤ → Result ℤ FaultKind
 one neg x = fitted (neg_ℤ x)
 one logical_not x = truth (is_zero x)
 one o x = Ok x
 
--- An operator of two operands; one of one gives the first. A quotient goes towards zero, and a remainder is a fault where the quotient is.
+-- A binary operator. A unary one gives the first operand here. A quotient goes towards zero. A remainder is a fault if the quotient is.
 abbrev pub two : Operator → ℤ → ℤ → Result ℤ FaultKind
 two add x y = fitted (x +ℤ y)
 two sub x y = fitted (x -ℤ y)

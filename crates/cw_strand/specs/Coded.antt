@@ -1,7 +1,7 @@
 -- What a strand does, over compiled code.
 --
--- A strand stands at a place of a function, with the function's locals and operands; the functions that called it wait with theirs. An
--- instruction takes its operands from the newest on, and leaves its result there.
+-- A strand is at a place of a function, with the function's locals and operands. The functions that called it wait with
+-- theirs. An instruction takes its operands from the newest on, and leaves its result there.
 use Rattle.std.specs.Prelude.{◌≡◌, ℕ, suc, ◌+◌, ◌-◌, ◌*◌, List, [], ◌∷◌, ◌++◌, length, take, drop, reverse, replicate, max, Option, Some, None, Result, Ok, Err, if◌then◌else◌, nat_lt, nat_le, ℤ, pos, negsuc, slice_get, slice_set}
 use Rattle.cw_code.specs.declared.instruction.Instr.{Instr}
 use Rattle.cw_code.specs.declared.instruction.Func.{Func}
@@ -24,7 +24,7 @@ use Rattle.cw_strand.specs.Running.{Running, Standing, on, wants, stuck}
 use Rattle.cw_strand.specs.Meaning.{one_more, one_inside, in_place, both_counts, most_frames, stores_and_steps_left}
 use Rattle.cw_strand.specs.Arithmetic.{one, two, is_zero}
 
--- a function that stands: where it goes on, its operands, the newest first, and its locals by number
+-- an active function: where it goes on, its operands, the newest first, and its locals by number
 pub record Frame : Type 0 where
   pub place : ℕ
   pub operands : List ℤ
@@ -34,7 +34,7 @@ pub record State : Type 0 where
   pub current : Frame
   -- the functions that wait for a return, the nearest first
   pub callers : List Frame
-  -- for each scope that waits at its end, the innermost first, how many forks it has to wait for
+  -- for each scope that waits at its end, the innermost first, how many forks it waits for
   pub scopes : List ℕ
   -- the units of fuel that were spent, and how many things were counted
   pub fuel : ℕ
@@ -48,12 +48,12 @@ pub record State : Type 0 where
 abbrev pub Step : Type 0
 Step = running.LocalStep State
 
--- an operand that names a place, a local, a cell or a function
+-- the number of the place, local, cell or function that an operand names
 abbrev pub index : ℤ → ℕ
 index (pos n) = n
 index (negsuc n) = 0
 
--- on at this place with these operands
+-- the state that goes on at the place p with the operands vs
 abbrev pub goes_to : ℕ → List ℤ → State → State
 goes_to p vs s = record s { current = record { place = p; operands = vs; locals = s.current.locals } }
 
@@ -62,11 +62,11 @@ with_value Nothing s = s
 with_value (Value v) s = goes_to s.current.place (in_place v s.current.operands) s
 with_value (Wrote bs) s = record s { back = bs }
 
--- the arguments, the last one first, as the first locals, and zeros after them
+-- the arguments, the last one first, become the first locals; zeros follow them
 abbrev pub locals_for : Func → List ℤ → List ℤ
 locals_for f vs = reverse (take f.params vs) ++ replicate (f.locals - f.params) (pos 0)
 
--- what is done, with no scope open but its own, keeps no locals and no scope
+-- the state at the end: if only its own scope is open, it keeps no locals and no scope
 abbrev pub ended : List ℕ → State → State
 ended (n ∷ []) s = record s { current = record { place = s.current.place; operands = s.current.operands; locals = [] }; scopes = [] }
 ended ns s = s
@@ -81,27 +81,27 @@ left s = record s {
   back = [];
 }
 
--- the strand that forked has what the right one has, the greater fuel, and both counts
+-- the strand that forked has what the right one has, with the greater fuel and both counts
 abbrev pub joined : (right left : State) → State
 joined right left = record right { fuel = max left.fuel right.fuel; size = both_counts right.limits right.size left.size }
 
--- what counts one goes on while that is within the limit
+-- goes on and counts one, if the limit allows it
 abbrev pub counted : State → (State → Step) → Step
 counted s go = if nat_le s.limits.size s.size then wants (Fault Size) s else go (record s { size = s.size + 1 })
 
 abbrev pub counts : Want → State → Step
 counts w s = counted s (λ t. wants w t)
 
--- one unit of fuel
+-- spends one unit of fuel and goes on, if the limit allows it
 abbrev pub spends : State → (State → Step) → Step
 spends s go = if nat_le s.limits.fuel s.fuel then wants (Fault Fuel) s else go (record s { fuel = s.fuel + 1 })
 
--- an operator's result, on these operands at this place
+-- pushes an operator's result on the operands vs and goes on at the place p
 abbrev pub result : Result ℤ FaultKind → ℕ → List ℤ → State → Step
 result (Ok v) p vs s = on (goes_to p (v ∷ vs) s)
 result (Err k) p vs s = wants (Fault k) s
 
--- an index below the length
+-- goes on if the index is below the length
 abbrev pub in_range : ℕ → ℤ → State → Step → Step
 in_range len (negsuc n) s go = wants (Fault Range) s
 in_range len (pos n) s go = if nat_lt n len then go else wants (Fault Range) s
@@ -114,7 +114,7 @@ abbrev pub write_local : ℕ → ℤ → ℕ → List ℤ → State → Step
 write_local n v p vs s =
     if nat_lt n (length s.current.locals) then on (record s { current = record { place = p; operands = vs; locals = slice_set s.current.locals n v } }) else stuck
 
--- the caller goes on at the place behind its call, without the arguments
+-- a function begins, within the limit of active functions; its caller goes on at the place behind the call, without the arguments
 abbrev pub begins_call : Option Func → ℕ → List ℤ → State → Step
 begins_call None p vs s = stuck
 begins_call (Some f) p vs s =
@@ -134,18 +134,18 @@ returned (f ∷ fs) v s = on (record s {
   scopes = drop 1 s.scopes;
 })
 
--- a scope that has nothing to wait for goes on
+-- a strand goes on if the innermost scope waits for nothing, otherwise it ends as a right strand
 abbrev pub wait_in : List ℕ → ℕ → List ℤ → State → Step
 wait_in (suc n ∷ ns) p vs s = wants Sync (record s { scopes = n ∷ ns })
 wait_in ns p vs s = on (goes_to p vs s)
 
 module _ (code : Code) where
-  -- an instruction's effect, the place behind it, and the operands
+  -- what an effect does, given the place behind the instruction and the operands
   abbrev pub act : Effect → Instr → ℕ → List ℤ → State → Step
   act push i p vs s = on (goes_to p (i.a ∷ vs) s)
   act local i p vs s = read_local (slice_get s.current.locals (index i.a)) p vs s
   act set i p (v ∷ vs) s = write_local (index i.a) v p vs s
-  -- a zero stands for the value that is loaded
+  -- A zero holds the place of the value that is loaded
   act load i p vs s = counts (Load (index i.a)) (goes_to p (pos 0 ∷ vs) s)
   act load_at i p (n ∷ vs) s = in_range i.b n s (counts (Load (index i.a + index n)) (goes_to p (pos 0 ∷ vs) s))
   act store i p (v ∷ vs) s = counts (Store (index i.a) v) (goes_to p vs s)
@@ -180,23 +180,24 @@ module _ (code : Code) where
   writes_back [] s = step_at (slice_get code.instrs s.current.place) s
   writes_back (b ∷ bs) s = counts (Store b.cell b.value) (record s { back = bs })
 
-  -- a count over the limit comes from a join
+  -- only a join makes the count exceed the limit
   abbrev pub step : State → Step
   step s = if nat_lt s.limits.size s.size then wants (Fault Size) s else writes_back s.back s
 
   -- ## Local work
 
-  -- how far a place is from the end; a way back leads to a tick
+  -- how far a place is from the end; a backward jump leads to a tick
   abbrev pub rank : ℕ → ℕ
   rank p = if is_tick (slice_get code.instrs p) then 0 else suc (length code.instrs - p)
 
-  -- no more steps by itself than so many, where nothing is to be written back: a tick and a call spend fuel, a return leaves a caller, and else the end comes nearer
+  -- A bound on the steps by itself if nothing is to be written back: a tick and a call spend fuel, a return leaves a
+  -- caller, any other step comes nearer to the end
   abbrev pub steps_left : State → ℕ
   steps_left s = (length code.instrs + 2) * (2 * (s.limits.fuel - s.fuel) + length s.callers) + rank s.current.place
 
   -- ## Strands
 
-  -- the strand of a function with these arguments, the last one first
+  -- the strand of a function with the arguments vs, the last one first
   abbrev pub starts_at : Option Func → List ℤ → Limits → State
   starts_at None vs limits = record { current = record { place = 0; operands = []; locals = [] }; callers = []; scopes = []; fuel = 0; size = 0; beside = 0; back = []; limits = limits }
   starts_at (Some f) vs limits = record {
@@ -210,11 +211,11 @@ module _ (code : Code) where
     limits = limits;
   }
 
-  -- the function main is there, and has so many parameters
+  -- the function main exists and has n parameters
   abbrev pub MainTakes : (main n : ℕ) → Type 0
   MainTakes main n = (f : Func) × (slice_get code.funcs main ≡ Some f) × (f.params ≡ n)
 
-  -- How the strands of code run from a function on, with the words of the command and the limits.
+  -- How the strands of code run from the function `main` on, with the words of the command and the limits.
   abbrev pub runs : (main : ℕ) → List ℤ → Limits → Running State
   runs main words limits = record {
     elements = code.cells;

@@ -1,9 +1,9 @@
--- The code of a program: one function of its tree.
+-- The code of a program, one function of its tree after another.
 --
--- Each statement but a loop starts with a tick, and the test of a loop does: the jump at the loop's end leads back there. The arguments of a
--- call are operands, the last one the newest, and its value takes their place. The functions lie one behind the other in the order of the
--- text. The parameters are the first locals; a `let` takes the number of locals that are visible there, so that the numbers of a block that
--- has ended are used again.
+-- Each statement except a loop starts with a tick, and so does the test of a loop, to which the jump at the loop's end
+-- leads back. The arguments of a call are operands, the last one the newest, and its value replaces them. The functions
+-- follow each other in the order of the text. The parameters are the first locals. A `let` takes as its number the
+-- number of locals that are visible there, so the numbers of a block that has ended are used again.
 use Rattle.std.specs.Prelude.{ℕ, ◌+◌, List, [], ◌∷◌, ◌++◌, length, max, Option, Some, None, if◌then◌else◌, codes, pos}
 use Rattle.std.specs.Str.{bytes_eq}
 use Rattle.cw_text.specs.declared.ast.Word.{Word}
@@ -34,19 +34,19 @@ operator_number le = 18
 operator_number gt = 19
 operator_number ge = 20
 
--- an operator of one operand, which else changes nothing
+-- the instruction of a unary operator; any other changes nothing
 abbrev pub lift_code : Option Operator → List Instr
 lift_code None = []
 lift_code (Some o) = plain (operator_number o) ∷ []
 
--- an operator of two operands, which else gives the first
+-- the instruction of a binary operator; any other gives the first operand
 abbrev pub join_code : Option Operator → Instr
 join_code None = discard
 join_code (Some o) = plain (operator_number o)
 
 -- ## Names
 
--- the names of the locals that are visible, the newest first: the oldest has number 0
+-- the names of the visible locals, the newest first; the oldest has number 0
 abbrev pub Slots : Type 0
 Slots = List (List ℕ)
 
@@ -62,7 +62,7 @@ abbrev pub slots_after : Statement → Slots → Slots
 slots_after (declare w e) g = w.name ∷ g
 slots_after s g = g
 
--- the number of an element, or 0 where there is none
+-- the number of an element, or 0 if there is none
 abbrev pub element : Option ℕ → ℕ
 element None = 0
 element (Some c) = c
@@ -73,14 +73,14 @@ function_names [] = []
 function_names (cell x l len i ∷ ds) = function_names ds
 function_names (func x l ps b ∷ ds) = x ∷ function_names ds
 
--- the number of a function, counted from this one on; the number behind the last one where there is none
+-- the number of the function n, counted from k on; the number behind the last one if there is none
 abbrev pub number_from : ℕ → List ℕ → List (List ℕ) → ℕ
 number_from k n [] = k
 number_from k n (x ∷ xs) = if bytes_eq x n then k else number_from (k + 1) n xs
 
 -- ## Lengths
 
--- how long the code of a block is, wherever it stands
+-- how long the code is, which does not depend on its place
 abbrev mutual
   pub term_length : Term → ℕ
   term_length (number n) = 1
@@ -150,8 +150,8 @@ module _ (cells : List CellInfo) (functions : List (List ℕ)) where
     terms_code g (more e es) = term_code g e ++ terms_code g es
 
   abbrev mutual
-    -- the code of a statement whose first instruction stands at the place p, where the innermost atomic block of its function has its `end` at
-    -- the place `ending`
+    -- the code of a statement whose first instruction is at the place p; the innermost atomic block of its function has
+    -- its `end` at the place `ending`
     pub statement_code : Slots → (p ending : ℕ) → Statement → List Instr
     statement_code g p q (declare w e) = tick ∷ (term_code g e ++ set (length g) ∷ [])
     statement_code g p q (assign w e) = tick ∷ (term_code g e ++ writes (slot_of g w.name) w.name ∷ [])
@@ -181,11 +181,11 @@ module _ (cells : List CellInfo) (functions : List (List ℕ)) where
     block_code g p q (first s b) =
         let here = statement_code g p q s in here ++ block_code (slots_after s g) (p + length here) q b
 
-  -- the function's value is 0 where it has no `return`
+  -- the function's value is 0 if it has no `return`
   abbrev pub function_code : ℕ → List Word → Block → List Instr
   function_code p params body = block_code (slots_with_params params []) p 0 body ++ (wait ∷ push (pos 0) ∷ ret ∷ [])
 
--- how many locals are visible at once at most, where so many are visible before
+-- the most locals that are visible at once, if n are visible before
 abbrev mutual
   pub most_in : ℕ → Statement → ℕ
   most_in n (declare w e) = n + 1
@@ -206,7 +206,7 @@ abbrev mutual
 -- ## Programs
 
 module _ (cells : List CellInfo) (functions : List (List ℕ)) where
-  -- the functions from the place p on
+  -- the instructions of the functions from the place p on
   abbrev pub instrs_from : ℕ → List Declaration → List Instr
   instrs_from p [] = []
   instrs_from p (cell x l len i ∷ ds) = instrs_from p ds

@@ -21,15 +21,15 @@ use Rattle.cw_strand.specs.Compilation.{code_of, main_function}
 
 -- ## Over the syntax
 
--- A strand never goes on by itself for ever: where it stands is where its steps lead.
+-- A strand never goes on by itself for ever: its steps lead to the want that `stand` gives.
 abbrev pub LocalWorkEnds : Type 0
 LocalWorkEnds = (ds : List Declaration) (words : List ℤ) (limits : Limits) → Settles (meaning.runs ds words limits)
 
--- Whatever a strand is answered, no more forks and answers follow each other than its depth says.
+-- Whatever a strand is answered, its depth bounds how many forks and answers follow each other.
 abbrev pub ForksEnd : Type 0
 ForksEnd = (ds : List Declaration) (words : List ℤ) (limits : Limits) → IsDeep (meaning.strands_of_syntax ds words limits)
 
--- Its end alone is left to a strand, and no operand is left over but main's own value.
+-- Only its end is left to a strand, and no operand is left over except main's own value.
 abbrev pub AllIsDone : List Task → List ℤ → Type 0
 AllIsDone (finish ∷ []) [] = Unit {0}
 AllIsDone (finish_main ∷ []) (v ∷ []) = Unit {0}
@@ -44,14 +44,14 @@ pub record IsFaultless (ds : List Declaration) (words : List ℤ) : Type 0 where
   pub named : naming_fault ds ≡ None
   pub takes : meaning.MainTakes ds (length words)
 
--- A strand of a program without a naming fault is done only where it has done all that it had to do.
+-- A strand of a program without a naming fault is done only if it has done all that it had to do.
 abbrev pub EndsOnlyWhenDone : Type 0
 EndsOnlyWhenDone =
     (ds : List Declaration) (words : List ℤ) (limits : Limits) → IsFaultless ds words
     → let s = meaning.strands_of_syntax ds words limits in
     (own : List ℕ) (x : Standing State) → Reached s own x → s.want x ≡ Done → HasDoneAll x
 
--- In a program without a naming fault a block ends in the strand that began it, and a strand ends only once its own blocks have ended.
+-- In a program without a naming fault a block ends in the strand that began it, and a strand ends only after its own blocks.
 abbrev pub BlocksClose : Type 0
 BlocksClose = (ds : List Declaration) (words : List ℤ) (limits : Limits) → IsFaultless ds words → Closes (meaning.strands_of_syntax ds words limits)
 
@@ -67,11 +67,12 @@ CodeIsNeverStuck =
     (code : Code) (main : ℕ) (words : List ℤ) (limits : Limits) → faults code ≡ [] → coded.MainTakes code main (length words)
     → NeverStuck (coded.runs code main words limits)
 
--- Where each function of a strand stands at a place of the code, with what stands there, it does so wherever the strand's next step leads.
+-- If each function of a strand is at a place of the code, with the locals and operands that the rules say of it, this
+-- holds after its next step.
 abbrev pub StandsOn : Type 0
 StandsOn = (code : Code) (s : coded.State) → faults code ≡ [] → StandsIn code s → StepStands code (coded.step code s)
 
--- Each state stands so through which the strands of a main go, whatever they are answered and whichever are joined.
+-- This holds of each state that the strands of a main go through, whatever they are answered and whichever are joined.
 abbrev pub VisitedStand : Type 0
 VisitedStand =
     (code : Code) (main : ℕ) (words : List ℤ) (limits : Limits) → faults code ≡ [] → coded.MainTakes code main (length words)
@@ -81,7 +82,7 @@ VisitedStand =
 abbrev pub CodeWorkEnds : Type 0
 CodeWorkEnds = (code : Code) (main : ℕ) (words : List ℤ) (limits : Limits) → faults code ≡ [] → Settles (coded.runs code main words limits)
 
--- Whatever a strand is answered, no more forks and answers follow each other than its depth says.
+-- Whatever a strand is answered, its depth bounds how many forks and answers follow each other.
 abbrev pub CodeForksEnd : Type 0
 CodeForksEnd = (code : Code) (main : ℕ) (words : List ℤ) (limits : Limits) → faults code ≡ [] → IsDeep (coded.strands_of_code code main words limits)
 
@@ -98,19 +99,19 @@ CodeNamesElements =
     → let s = coded.strands_of_code code main words limits in
     (own : List ℕ) (x : Standing coded.State) → Reached s own x → NamesElement code (s.want x)
 
--- a want is none to give up a block
+-- a want is not a cancel
 abbrev pub GivesUpNothing : Want → Type 0
 GivesUpNothing Cancel = ⊥
 GivesUpNothing w = Unit {0}
 
--- A strand of code in which no instruction is a cancel never gives up a block.
+-- A strand of code without a cancel never gives up a block.
 abbrev pub CodeGivesUpNothing : Type 0
 CodeGivesUpNothing =
     (code : Code) (main : ℕ) (words : List ℤ) (limits : Limits) → faults code ≡ [] → cancels code ≡ false
     → let s = coded.strands_of_code code main words limits in
     (own : List ℕ) (x : Standing coded.State) → Reached s own x → GivesUpNothing (s.want x)
 
--- What stood below the begin of a block stands there still for each strand inside the block that does not want its end.
+-- What was below the begin of a block is still there for each strand inside the block that does not want its end.
 abbrev pub BeginStaysBelow : Type 0
 BeginStaysBelow =
     (code : Code) (main : ℕ) (words : List ℤ) (limits : Limits) → faults code ≡ []
@@ -124,7 +125,7 @@ BeginStaysBelow =
 abbrev pub BreaksNoRule : Type 0
 BreaksNoRule = (ds : List Declaration) → naming_fault ds ≡ None → faults (code_of ds) ≡ []
 
--- An instruction of the code of a program is a cancel exactly where a `cancel` stands in the program.
+-- The code of a program has a cancel exactly if the program has one.
 abbrev pub CodeHasItsCancels : Type 0
 CodeHasItsCancels = (ds : List Declaration) → cancels (code_of ds) ≡ has_cancel ds
 
@@ -138,7 +139,7 @@ WantsOfTheSource =
     (ds : List Declaration) (words : List ℤ) (limits : Limits) → IsFaultless ds words
     → WantTheSame (meaning.strands_of_syntax ds words limits) (compiled ds words limits)
 
--- A strand of compiled code is done only where the strand of the source to which the same has happened has done all that it had to do.
+-- A strand of compiled code is done only if the strand of the source with the same past has done all that it had to do.
 abbrev pub CodeEndsOnlyWhenDone : Type 0
 CodeEndsOnlyWhenDone =
     (ds : List Declaration) (words : List ℤ) (limits : Limits) → IsFaultless ds words
@@ -153,6 +154,6 @@ CodeIsLawful = (ds : List Declaration) (words : List ℤ) (limits : Limits) → 
 
 -- ## Laws that want the same
 
--- Where blocks close over the one, they close over the other.
+-- If blocks close over s, they close over t.
 abbrev pub ClosesWithIt : {A B : Type 0} → Strands A → Strands B → Type 0
 ClosesWithIt s t = WantTheSame s t → Closes s → Closes t

@@ -1,20 +1,22 @@
 -- What a strand does, over the syntax tree.
 --
--- A strand has a list of what is still to be done, the nearest first: a statement is replaced by its parts, an
+-- A strand has a list of what is still to be done, the nearest first. A statement is replaced by its parts, an
 -- expression by its operands and its operator.
 --
--- The body of a function, an atomic block and a spawned block wait at their ends, and `sync` waits, for the work that was spawned
--- right in them. Where work is spawned, what comes after it goes on as the right strand; that one ends where it would wait,
--- and the strand that forked goes on from there once both have ended.
+-- The body of a function, an atomic block and a spawned block wait at their ends for the work that was spawned directly
+-- in them, and `sync` waits for it too. Where work is spawned, what comes after it goes on as the right strand. The
+-- right strand ends where it would wait. The strand that forked goes on from there after both have ended.
 --
--- A function that is called begins with its arguments as its locals, and with no operands; what called it waits with its own. A function
--- gives the value of its `return`, which waits for what the function spawned, or 0 at its end.
+-- A called function begins with its arguments as its locals, and with no operands. Its caller waits with its own. A
+-- function gives the value of its `return`, which waits for what the function spawned, or 0 at its end.
 --
--- A cancel waits as the end of its atomic block does, and once it was told what the block wrote and what was there before, all that is left
--- of the block is not done: that is written back, a store after the other, and the block ends.
+-- A cancel waits as the end of its atomic block does. It is then told what the block wrote and which values were there
+-- before. All that is left of the block is not done: those values are written back, one store after the other, and the
+-- block ends.
 --
--- Each statement but a loop costs a unit of fuel when it begins, and each test of a loop and each call costs one. A load, a store, an output,
--- the begin of a block, a cancel and a fork count one each, and so does each store that writes back.
+-- Each statement except a loop costs a unit of fuel when it begins, and each test of a loop and each call costs one. A
+-- load, a store, an output, the begin of a block, a cancel and a fork count one each, and so does each store that
+-- writes back.
 use Rattle.std.specs.Prelude.{◌≡◌, ℕ, suc, ◌+◌, ◌-◌, ◌*◌, List, [], ◌∷◌, length, drop, reverse, max, min, Option, Some, None, Result, Ok, Err, if◌then◌else◌, nat_lt, nat_le, codes, ℤ, pos, negsuc}
 use Rattle.std.specs.Str.{bytes_eq}
 use Rattle.cw_text.specs.declared.ast.Word.{Word}
@@ -45,7 +47,7 @@ abbrev pub element_of : List CellInfo → List ℕ → Option ℕ
 element_of [] n = None
 element_of (c ∷ cs) n = if bytes_eq n c.name then Some c.base else element_of cs n
 
--- the cell of a name
+-- the cell with the name n
 abbrev pub cell_of : List CellInfo → List ℕ → Option CellInfo
 cell_of [] n = None
 cell_of (c ∷ cs) n = if bytes_eq n c.name then Some c else cell_of cs n
@@ -82,23 +84,23 @@ abbrev pub params_in : Option Function → ℕ
 params_in None = 0
 params_in (Some f) = length f.params
 
--- how many functions may stand at once
+-- the most functions that may be active at once
 abbrev pub most_frames : ℕ
 most_frames = 10000
 
--- main has so many parameters
+-- main has n parameters
 abbrev pub MainTakes : List Declaration → ℕ → Type 0
 MainTakes ds n = params_in (function_of ds (codes "main")) ≡ n
 
 -- ## Operators
 
--- What an operator does that has one operand. A tree may name one of two operands there, which then changes nothing.
+-- The unary operator that o is. A tree may name a binary one here, which then changes nothing.
 abbrev pub lifted : Op → Option Operator
 lifted op.Neg = Some neg
 lifted op.Not = Some logical_not
 lifted o = None
 
--- What an operator does that has two operands. A tree may name one of one operand there, which then gives the first.
+-- The binary operator that o is. A tree may name a unary one here, which then gives the first operand.
 abbrev pub joining : Op → Option Operator
 joining op.Add = Some add
 joining op.Sub = Some sub
@@ -122,7 +124,7 @@ pub data Task : Type 0 where
   -- an operator takes its one operand, or its two
   lift : Operator → Task
   join : Operator → Task
-  -- a function is called with so many arguments, which are operands
+  -- a function is called with this number of arguments, which are operands
   enter : List ℕ → ℕ → Task
   -- an operand is dropped
   discard : Task
@@ -130,16 +132,16 @@ pub data Task : Type 0 where
   perform : Block → Task
   bind : List ℕ → Task
   store_in : List ℕ → Task
-  -- an element of an array is loaded, or stored, whose index is an operand
+  -- an element of an array is loaded or stored, whose index is an operand
   load_at : List ℕ → Task
   store_at : List ℕ → Task
   show : Task
-  -- a test takes its operand: the first block is done where it holds, or else the second
+  -- a test takes its operand: the first block is done if it holds, otherwise the second
   choose_by : Block → Block → Task
-  -- a loop, at its test, and where the test has been made
+  -- a loop before its test, and after it
   test : Term → Block → Task
   repeat_by : Term → Block → Task
-  -- the end of a block that had so many locals before it
+  -- the end of a block that had this number of locals before it
   forget : ℕ → Task
   -- waits for what was spawned in the innermost scope
   wait : Task
@@ -148,7 +150,7 @@ pub data Task : Type 0 where
   -- the end of a left strand, and that of main, whose value is an operand
   finish : Task
   finish_main : Task
-  -- the end of a function that was called, whose value is an operand: what called it goes on with these locals and operands
+  -- the end of a called function, whose value is an operand: its caller goes on with these locals and operands
   back_to : Locals → List ℤ → Task
   -- a return: what is left of the function is not done
   leave : Task
@@ -160,9 +162,9 @@ pub record State : Type 0 where
   -- operands, the newest first
   pub values : List ℤ
   pub locals : Locals
-  -- how many functions stand
+  -- how many functions are active
   pub frames : ℕ
-  -- for each scope that waits at its end, the innermost first, how many forks it has to wait for
+  -- for each scope that waits at its end, the innermost first, how many forks it waits for
   pub scopes : List ℕ
   -- the units of fuel that were spent, and how many things were counted
   pub fuel : ℕ
@@ -178,7 +180,7 @@ Step = running.LocalStep State
 abbrev pub to_do : List Task → State → State
 to_do k s = record s { todo = k }
 
--- an operator's result, where these operands are left
+-- pushes an operator's result on the operands vs
 abbrev pub result : Result ℤ FaultKind → List ℤ → State → Step
 result (Ok v) vs s = on (record s { values = v ∷ vs })
 result (Err k) vs s = wants (Fault k) s
@@ -204,29 +206,29 @@ unwound (finish ∷ k) = finish ∷ k
 unwound (finish_main ∷ k) = finish_main ∷ k
 unwound (t ∷ k) = unwound k
 
--- what is done where the innermost atomic block is given up: all that it declared is forgotten, and it ends
+-- what is done after a cancel: the innermost atomic block forgets all that it declared, and ends
 abbrev pub tasks_after_cancel : List Task → List Task
 tasks_after_cancel [] = []
 tasks_after_cancel (forget n ∷ k) = forget n ∷ tasks_after_cancel k
 tasks_after_cancel (commit ∷ k) = commit ∷ k
 tasks_after_cancel (t ∷ k) = tasks_after_cancel k
 
--- the innermost scope has one fork more to wait for
+-- the innermost scope waits for one fork more
 abbrev pub one_more : List ℕ → List ℕ
 one_more [] = 1 ∷ []
 one_more (n ∷ ns) = (n + 1) ∷ ns
 
--- one scope more, inside those that are open: where none is, the strand's own is opened too
+-- opens a scope inside the open ones; if none is open, the strand's own is opened too
 abbrev pub one_inside : List ℕ → List ℕ
 one_inside [] = 0 ∷ 0 ∷ []
 one_inside ns = 0 ∷ ns
 
--- a scope that has nothing to wait for goes on
+-- a strand goes on if the innermost scope waits for nothing, otherwise it ends as a right strand
 abbrev pub wait_in : List ℕ → List Task → State → Step
 wait_in (suc n ∷ ns) k s = wants Sync (record s { todo = wait ∷ k; scopes = n ∷ ns })
 wait_in ns k s = on (to_do k s)
 
--- an answer takes the place of the operand that stands for it
+-- an answer replaces the operand that holds its place
 abbrev pub in_place : ℤ → List ℤ → List ℤ
 in_place v [] = []
 in_place v (x ∷ xs) = v ∷ xs
@@ -236,7 +238,7 @@ with_value Nothing s = s
 with_value (Value v) s = record s { values = in_place v s.values }
 with_value (Wrote bs) s = record s { back = bs }
 
--- what is done, with no scope open but its own, keeps no locals and no scope
+-- the state at the end: if only its own scope is open, it keeps no locals and no scope
 abbrev pub ended : List ℕ → State → State
 ended (n ∷ []) s = record s { locals = []; scopes = [] }
 ended ns s = s
@@ -245,27 +247,27 @@ ended ns s = s
 abbrev pub left : State → State
 left s = record s { todo = perform s.beside ∷ wait ∷ finish ∷ []; values = []; frames = 1; scopes = 0 ∷ []; size = 0; back = [] }
 
--- both counts, no further than past the limit
+-- both counts, but at most one more than the limit
 abbrev pub both_counts : Limits → (right left : ℕ) → ℕ
 both_counts limits right left = max right (min (suc limits.size) (left + right))
 
--- the strand that forked has what the right one has, the greater fuel, and both counts
+-- the strand that forked has what the right one has, with the greater fuel and both counts
 abbrev pub joined : Limits → (right left : State) → State
 joined limits right left = record right { fuel = max left.fuel right.fuel; size = both_counts limits right.size left.size }
 
 module _ (cells : List CellInfo) (functions : List ℕ → Option Function) (limits : Limits) where
-  -- what counts one goes on while that is within the limit
+  -- goes on and counts one, if the limit allows it
   abbrev pub counted : State → (State → Step) → Step
   counted s go = if nat_le limits.size s.size then wants (Fault Size) s else go (record s { size = s.size + 1 })
 
   abbrev pub counts : Want → State → Step
   counts w s = counted s (λ t. wants w t)
 
-  -- one unit of fuel
+  -- spends one unit of fuel and goes on, if the limit allows it
   abbrev pub spends : State → (State → Step) → Step
   spends s go = if nat_le limits.fuel s.fuel then wants (Fault Fuel) s else go (record s { fuel = s.fuel + 1 })
 
-  -- A name stands for a local or a cell. The value that is loaded will take the place of an operand that stands for it.
+  -- A name is that of a local or a cell. An operand holds the place of the value that is loaded.
   abbrev pub read_name : Option ℤ → Option ℕ → State → Step
   read_name (Some v) c s = on (record s { values = v ∷ s.values })
   read_name None (Some c) s = counts (Load c) (record s { values = pos 0 ∷ s.values })
@@ -276,13 +278,13 @@ module _ (cells : List CellInfo) (functions : List ℕ → Option Function) (lim
   write_name None (Some c) n v s = counts (Store c v) s
   write_name None None n v s = stuck
 
-  -- the element of an array with this index, and what is done with it
+  -- goes on with the element of the array that has this index, if there is one
   abbrev pub in_range : Option CellInfo → ℤ → State → (ℕ → Step) → Step
   in_range None i s go = stuck
   in_range (Some c) (negsuc n) s go = wants (Fault Range) s
   in_range (Some c) (pos n) s go = if nat_lt n c.len then go (c.base + n) else wants (Fault Range) s
 
-  -- a function begins, within the limit of those that stand, and what called it with so many arguments waits
+  -- a function begins, within the limit of active functions; its caller waits, without the n arguments
   abbrev pub begins_call : Option Function → ℕ → List Task → State → Step
   begins_call None n k s = stuck
   begins_call (Some f) n k s =
@@ -295,7 +297,7 @@ module _ (cells : List CellInfo) (functions : List ℕ → Option Function) (lim
         scopes = 0 ∷ s.scopes;
       })
 
-  -- a statement, once what it costs is spent, and what is done after it
+  -- a statement whose cost is spent, and what is done after it
   abbrev pub begin_with : Statement → List Task → State → Step
   begin_with (declare w e) k s = on (to_do (value e ∷ bind w.name ∷ k) s)
   begin_with (assign w e) k s = on (to_do (value e ∷ store_in w.name ∷ k) s)
@@ -310,12 +312,12 @@ module _ (cells : List CellInfo) (functions : List ℕ → Option Function) (lim
   begin_with (cancel l) k s = on (to_do (wait ∷ give_up ∷ k) s)
   begin_with (return l e) k s = on (to_do (value e ∷ wait ∷ leave ∷ k) s)
 
-  -- a loop alone costs nothing itself
+  -- only a loop costs nothing itself
   abbrev pub perform_with : Statement → List Task → State → Step
   perform_with (repeat e b) k s = begin_with (repeat e b) k s
   perform_with st k s = spends s (λ t. begin_with st k t)
 
-  -- one task, the operands, and what is done after it
+  -- does a task, given the operands and what is done after it
   abbrev pub act : Task → List ℤ → List Task → State → Step
   act (value (number n)) vs k s = on (record s { todo = k; values = n ∷ vs })
   act (value (name w)) vs k s = read_name (local_of s.locals w.name) (element_of cells w.name) (to_do k s)
@@ -358,13 +360,13 @@ module _ (cells : List CellInfo) (functions : List ℕ → Option Function) (lim
   writes_back [] s = step_of s.todo s
   writes_back (b ∷ bs) s = counts (Store b.cell b.value) (record s { back = bs })
 
-  -- a count over the limit comes from a join
+  -- only a join makes the count exceed the limit
   abbrev pub step : State → Step
   step s = if nat_lt limits.size s.size then wants (Fault Size) s else writes_back s.back s
 
 -- ## Local work
 
--- how many steps a task can take, with all that it becomes, before a test of a loop and before a call
+-- how many steps a task can take, with all that it becomes, up to a test of a loop or a call
 abbrev mutual
   pub term_work : Term → ℕ
   term_work (number n) = 1
@@ -408,7 +410,7 @@ abbrev pub work : List Task → ℕ
 work [] = 0
 work (t ∷ ts) = task_work t + work ts
 
--- how much work a unit of fuel can add: that of a loop which begins again
+-- how much work a unit of fuel can add in a loop that begins again
 abbrev pub added_work : Task → ℕ
 added_work (perform b) = block_work b
 added_work (choose_by a b) = block_work a + block_work b
@@ -420,17 +422,17 @@ abbrev pub most_added : List Task → ℕ
 most_added [] = 0
 most_added (t ∷ ts) = max (added_work t) (most_added ts)
 
--- or that of a function which begins, with its end
+-- the same, for a function that begins, with its end
 abbrev pub most_begun : List Declaration → ℕ
 most_begun [] = 0
 most_begun (cell x l len i ∷ ds) = most_begun ds
 most_begun (func x l ps b ∷ ds) = max (block_work b + 2) (most_begun ds)
 
--- no more steps by itself than so many, where nothing is to be written back
+-- a bound on the steps by itself if nothing is to be written back
 abbrev pub steps_left : List Declaration → Limits → State → ℕ
 steps_left ds limits s = (max (most_begun ds) (most_added s.todo) + 1) * (limits.fuel - s.fuel) + work s.todo
 
--- no more steps by itself and stores that write back than so many
+-- a bound on the steps by itself and the stores that write back
 abbrev pub stores_and_steps_left : Limits → (steps size : ℕ) → ℕ
 stores_and_steps_left limits steps size = (limits.size + 2) * steps + (limits.size + 1 - size)
 

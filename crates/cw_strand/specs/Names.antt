@@ -1,6 +1,6 @@
 -- The naming rules: the first naming fault of a program, and what its names declare.
 --
--- Items come first, in the order of the text; then the functions, each from its first token; last, whether there is a main.
+-- Items come first, in the order of the text. Then come the functions, each from its first token. Last comes whether there is a main.
 use Rattle.std.specs.Prelude.{ℕ, zero, suc, ◌+◌, List, [], ◌∷◌, length, replicate, Option, Some, None, if◌then◌else◌, nat_lt, ◌==◌, codes, ℤ}
 use Rattle.std.specs.List.{flat_map}
 use Rattle.cw_text.specs.declared.ast.Word.{Word}
@@ -13,16 +13,16 @@ use Rattle.cw_strand.specs.declared.naming.NameFault.{NameFault}
 use Rattle.cw_strand.specs.declared.naming.Around.{Around}
 use Rattle.cw_strand.specs.declared.naming.Around.TheVariants as around
 
--- what a name stands for
+-- what a name means
 pub data Thing : Type 0 where
   a_local : Thing
   -- a plain cell, and one with elements
   a_cell : Thing
   an_array : Thing
-  -- with so many parameters
+  -- a function with this number of parameters
   a_function : ℕ → Thing
 
--- names and what they stand for, the newest first
+-- names and what they mean, the newest first
 abbrev pub Scope : Type 0
 Scope = List (List ℕ × Thing)
 
@@ -36,7 +36,7 @@ Fault = Option NameFault
 abbrev pub fault : NameKind → ℕ → Fault
 fault k l = Some (record { kind = k; line = l })
 
--- the first of two, in the order of the text
+-- the first of two faults, in the order of the text
 infixr 5 ◌then◌
 abbrev pub ◌then◌ : Fault → Fault → Fault
 None then g = g
@@ -58,7 +58,7 @@ indexed None l = fault kind.Unknown l
 indexed (Some an_array) l = None
 indexed (Some t) l = fault kind.NotACell l
 
--- a name that is called with so many arguments
+-- a name that is called with this number of arguments
 abbrev pub fault_of_call : Option Thing → ℕ → ℕ → Fault
 fault_of_call (Some (a_function n)) arguments l = if n == arguments then None else fault kind.WrongCount l
 fault_of_call t arguments l = fault kind.Unknown l
@@ -68,12 +68,12 @@ abbrev pub declared_new : Option Thing → ℕ → Fault
 declared_new None l = None
 declared_new (Some t) l = fault kind.Twice l
 
--- a `return`: it may not stand inside an atomic or a spawned block of its function
+-- a `return`, which is not allowed inside an atomic or a spawned block of its function
 abbrev pub returned_from : Around → ℕ → Fault
 returned_from around.Neither l = None
 returned_from a l = fault kind.ReturnInside l
 
--- a `cancel`: it stands inside an atomic block of its function, and inside no spawned block in that
+-- a `cancel`, which has to be inside an atomic block of its function, and inside no spawned block within that
 abbrev pub cancelled_in : Around → ℕ → Fault
 cancelled_in around.Atomic l = None
 cancelled_in a l = fault kind.CancelOutside l
@@ -101,7 +101,7 @@ abbrev pub scope_after : Statement → Scope → Scope
 scope_after (declare w e) g = (w.name, a_local) ∷ g
 scope_after s g = g
 
--- with what is innermost around it, an atomic or a spawned block of the function
+-- a statement or a block, given the innermost atomic or spawned block of the function around it
 abbrev mutual
   pub in_statement : Scope → Around → Statement → Fault
   in_statement g i (declare w e) = declared_new (find w.name g) w.line then in_term g e
@@ -148,7 +148,7 @@ globals [] = []
 globals (cell n l len i ∷ ds) = (n, cell_thing len) ∷ globals ds
 globals (func n l ps b ∷ ds) = (n, a_function (length ps)) ∷ globals ds
 
--- the items, with the names before them and the number of their elements
+-- the items, given the names before them and the number of elements before them
 abbrev pub in_items : Scope → ℕ → List Declaration → Fault
 in_items g n [] = None
 in_items g n (cell x l len i ∷ ds) =
@@ -162,7 +162,7 @@ in_functions g [] = None
 in_functions g (cell x l len i ∷ ds) = in_functions g ds
 in_functions g (func x l ps b ∷ ds) = in_params g ps then in_block (scope_with_params g ps) around.Neither b then in_functions g ds
 
--- the number of the item, counted from one on, that is the function main
+-- the number of the item that is the function main, counted from n
 abbrev pub main_from : ℕ → List Declaration → Option ℕ
 main_from n [] = None
 main_from n (cell x l len i ∷ ds) = main_from (suc n) ds
@@ -181,7 +181,7 @@ naming_fault ds = in_items [] 0 ds then in_functions (globals ds) ds then withou
 
 -- ## Cells
 
--- the cells, whose elements are numbered on in the order of the text
+-- the cells, with their elements numbered from n in the order of the text
 abbrev pub cells_from : ℕ → List Declaration → List CellInfo
 cells_from n [] = []
 cells_from n (cell x l len i ∷ ds) = record { name = x; len = len; base = n; init = i } ∷ cells_from (n + elements len) ds

@@ -6,7 +6,7 @@ use Rattle.cw_strand.specs.Strands.{Strands, IsAnswer, is_over}
 
 -- what happened to a strand since the run began
 pub data Past : Type 0 where
-  -- it is that of main
+  -- it is the strand of main
   start : Past
   -- it was answered
   answered : Past → Given → Past
@@ -25,7 +25,7 @@ module _ {A : Type 0} (s : Strands A) where
   became (right_of p) = s.right (became p)
   became (joined_of right left) = s.joined (became right) (became left)
 
-  -- This may have happened: each want was answered with what it takes, forks were wanted, and only strands that were over were joined.
+  -- This may have happened: each want got an answer that it takes, forks were wanted, and only strands that were over were joined.
   abbrev pub CanBe : Past → Type 0
   CanBe start = Unit {0}
   CanBe (answered p given) = CanBe p × IsAnswer s.elements (s.want (became p)) given
@@ -33,7 +33,7 @@ module _ {A : Type 0} (s : Strands A) where
   CanBe (right_of p) = CanBe p × (s.want (became p) ≡ Fork)
   CanBe (joined_of right left) = (CanBe right × (is_over (s.want (became right)) ≡ true)) × (CanBe left × (is_over (s.want (became left)) ≡ true))
 
--- The cells have as many elements, and after whatever may have happened to a strand, the two want the same.
+-- The cells have equally many elements, and after whatever may have happened to a strand, both laws want the same.
 pub record WantTheSame {A B : Type 0} (s : Strands A) (t : Strands B) : Type 0 where
   pub elements : s.elements ≡ t.elements
   pub wants : (p : Past) → CanBe s p → s.want (became s p) ≡ t.want (became t p)

@@ -14,21 +14,22 @@ use Rattle.cw_strand.specs.Standing.{StandsWanting}
 
 -- ## Inside a block
 
--- how many blocks are begun inside and not ended, once this is answered
+-- how many blocks are begun inside and not ended, after this want is answered
 abbrev pub inner_after : Want → ℕ → ℕ
 inner_after Begin n = suc n
 inner_after End n = n - 1
 inner_after w n = n
 
--- where so many blocks are begun inside and not ended: this is not the end of the block itself
+-- with n blocks begun inside and not ended, the want is not the end of the block itself
 abbrev pub StaysIn : Want → ℕ → Type 0
 StaysIn End zero = ⊥
 StaysIn w n = Unit {0}
 
 module _ {A : Type 0} (s : Strands A) where
-  -- Inside a block are: what the answer to its begin makes of the strand that wants it; what an answer makes of a strand inside, but for the
-  -- block's own end; the right strand of a fork inside; and the strand that forked, once its two strands are joined, wherever these stand.
-  -- The numbers say of how many forks inside it is the right strand, and how many blocks are begun inside and not ended.
+  -- Inside a block are: the strand that wants its begin, after the answer; a strand inside after an answer, except that
+  -- to the block's own end; the right strand of a fork inside; and the strand that forked, after its two strands are
+  -- joined, wherever these are. `forks` says of how many forks inside it is the right strand, `inner` how many blocks
+  -- are begun inside and not ended.
   pub data Inside (begin : A) : (forks inner : ℕ) → A → Type 0 where
     begun : Inside begin 0 0 (s.answer begin Nothing)
     answered : {forks inner : ℕ} {a : A} → Inside begin forks inner a → (given : Given) → IsAnswer s.elements (s.want a) given → StaysIn (s.want a) inner
@@ -39,8 +40,8 @@ module _ {A : Type 0} (s : Strands A) where
 
 -- ## What is kept
 
--- The function that began the block, as it stood there; how many functions wait for it, and how many scopes are open around the block; what
--- was spent and counted; and where the left strand of the newest fork begins.
+-- The function that began the block, as it was there; how many functions wait for it; how many scopes are open around
+-- the block; what was spent and counted; and where the left strand of the newest fork begins.
 pub record Kept : Type 0 where
   pub place : ℕ
   pub locals : List ℤ
@@ -63,12 +64,12 @@ kept_of s = record {
 
 -- ## Going back
 
--- the lowest so many
+-- the lowest n elements
 abbrev pub lowest : {X : Type 0} → ℕ → List X → List X
 lowest n xs = drop (length xs - n) xs
 
--- What stood below the begin of a block stands there still: the functions that waited, with the block's function on them, which has as
--- many locals as then; and the scopes around the block, with the block's own on them.
+-- What was below the begin of a block is still there: the functions that waited, with the block's function on them,
+-- which has as many locals as then; and the scopes around the block, with the block's own on them.
 pub record StillStands (start now : State) : Type 0 where
   pub function : Frame
   pub functions : lowest (suc (length start.callers)) (now.current ∷ now.callers) ≡ function ∷ start.callers
@@ -77,12 +78,12 @@ pub record StillStands (start now : State) : Type 0 where
   pub scopes : lowest (length start.scopes) now.scopes ≡ forks ∷ drop 1 start.scopes
   pub limits : now.limits ≡ start.limits
 
--- one stands where the other does, whatever each spent and counted
+-- the two states are the same, whatever each spent and counted
 abbrev pub StandsLike : (now there : State) → Type 0
 StandsLike now there = now ≡ record there { fuel = now.fuel; size = now.size }
 
--- Of the begin of a block of a program this is kept, and this strand stands where one does that is inside the block, and does not want the
--- block's own end. A strand to which another one was joined stands where it stood.
+-- `kept` was kept at the begin of a block of a program. The strand is in the state of one that is inside the block and
+-- does not want the block's own end, except for what it spent and counted: a join to it changes nothing else.
 pub record MayGoBack (kept : Kept) (now : State) : Type 0 where
   pub code : Code
   pub sound : faults code ≡ []

@@ -1,4 +1,4 @@
--- Where a strand of code stands: each of its functions at a place of the code, with the locals and the operands that stand there.
+-- Where a strand of code is: each of its functions at a place of the code, with the locals and operands that the rules say of that place.
 use Rattle.std.specs.Prelude.{◌≡◌, ◌<◌, ◌≤◌, ℕ, suc, Bool, true, false, List, [], ◌∷◌, length, slice_get, Contains, Option, Some, None, ℤ}
 use Rattle.cw_code.specs.declared.Limits.{Limits}
 use Rattle.cw_code.specs.declared.instruction.Func.{Func}
@@ -28,8 +28,8 @@ NoneOver most [] = Unit {0}
 NoneOver most (n ∷ ns) = (n ≤ most) × NoneOver most ns
 
 module _ (code : Code) where
-  -- At a place of a function of the code something stands: so many operands. The function has so many locals; where it ends
-  -- they may have been given up.
+  -- The place lies in a function of the code, whose situation there has this number of operands. The function has this
+  -- number of locals, except at its end, where they may have been freed.
   pub record StandsAt (place locals operands : ℕ) : Type 0 where
     pub func : Func
     pub declared : Contains code.funcs func
@@ -39,20 +39,20 @@ module _ (code : Code) where
     pub operands_there : situation.height ≡ operands
     pub locals_there : is_end (slice_get code.instrs place) ≡ false → func.locals ≡ locals
 
-  -- each function that waits has one operand more where it goes on: what is returned to it
+  -- each function that waits has one operand more where it goes on: the value that is returned to it
   abbrev pub WaitAt : List Frame → Type 0
   WaitAt [] = Unit {0}
   WaitAt (f ∷ fs) = StandsAt f.place (length f.locals) (suc (length f.operands)) × WaitAt fs
 
-  -- Each function of the strand stands at a place of the code, with as many locals as the function has and as many operands as stand there;
-  -- and no scope waits for more forks than were counted.
+  -- Each function of the strand is at a place of the code, with as many locals as the function has and as many operands
+  -- as its situation there says. No scope waits for more forks than were counted.
   pub record StandsIn (s : State) : Type 0 where
     pub current : StandsAt s.current.place (length s.current.locals) (length s.current.operands)
     pub callers : WaitAt s.callers
     pub scopes : NoneOver s.size s.scopes
 
-  -- A block has just begun: the strand stands inside a block, with no operand, and inside the scopes that were open, its own at least, stands
-  -- one that waits for nothing.
+  -- A block has just begun. The strand is inside a block and has no operand. Inside the scopes that were open, at least
+  -- its own, there is one that waits for nothing.
   pub record HasBegun (s : State) : Type 0 where
     pub operands : s.current.operands ≡ []
     pub around : ℕ
@@ -60,21 +60,21 @@ module _ (code : Code) where
     pub opened : s.scopes ≡ 0 ∷ around ∷ scopes
     pub current : StandsAt s.current.place (length s.current.locals) 0
     pub within : 0 < blocks_in current.situation.parts
-    -- and nothing is to be written back
+    -- nothing is to be written back
     pub back : s.back ≡ []
 
-  -- At its want: so does the left strand of its fork; and at the begin of a block that has begun.
+  -- At its want, `StandsIn` holds of the strand and of the left strand of its fork. At the begin of a block, the block has begun.
   pub record StandsWanting (w : Want) (s : State) : Type 0 where
     pub stands : StandsIn s
     pub beside : w ≡ Fork → StandsIn (left s)
     pub begun : w ≡ Begin → HasBegun s
 
-  -- so does what its next step leads to, and there is one
+  -- there is a next step, and the same holds of what it leads to
   abbrev pub StepStands : Step → Type 0
   StepStands (on s) = StandsIn s
   StepStands (wants w s) = StandsWanting w s
   StepStands stuck = ⊥
 
-  -- The want to which a strand comes by itself once it was given this, and the state at it: in every run of the code.
+  -- w is the want that a strand reaches by itself after this answer, and t is its state there, in every run of the code.
   abbrev pub NextFrom : State → Given → Want → State → Type 0
   NextFrom s given w t = (main : ℕ) (words : List ℤ) (limits : Limits) → record { want = w; state = t } ≡ stand (runs code main words limits) (with_value given s)

@@ -1,5 +1,5 @@
--- The law of strands: all that a machine, a record or a replay knows of one. It is given twice: from
--- the syntax tree in `Meaning`, and from compiled code in `Coded`.
+-- The law of strands: all that a machine, a record or a replay knows of one. It is given twice: from the syntax tree in
+-- `Meaning`, and from compiled code in `Coded`.
 use Rattle.std.specs.Prelude.{◌≡◌, ℕ, zero, suc, ◌<◌, ◌≤◌, Bool, true, false, List, [], ◌∷◌}
 use Rattle.cw_strand.specs.declared.want.Want.{Want}
 use Rattle.cw_strand.specs.declared.want.Want.TheVariants.{Load, Store, Out, Begin, End, Cancel, Fork, Sync, Done, Fault}
@@ -12,21 +12,21 @@ pub record Strands (A : Type 0) : Type 0 where
   pub elements : ℕ
   -- the strand of main, at its first want
   pub start : A
-  -- what a strand stands at
+  -- what a strand needs done before it goes on
   pub want : A → Want
-  -- what it becomes, at its next want, once that is answered
+  -- what the strand becomes after its want is answered, at its next want
   pub answer : A → Given → A
   -- the two strands of a fork, each at its first want, from the strand that wants it
   pub left : A → A
   pub right : A → A
   -- what the right strand at its end and the left one at its end become: the strand that forked, at its next want
   pub joined : (right left : A) → A
-  -- from here no more forks and answers than so many follow each other
+  -- a bound on how many forks and answers follow each other from here
   pub depth : A → ℕ
 
 -- ## Wants
 
--- a strand that wants this has come to its end: the right one of a fork at a sync, another one where it is done
+-- a strand with this want has ended: the right one of a fork at a sync, any other when it is done
 abbrev pub is_over : Want → Bool
 is_over Sync = true
 is_over Done = true
@@ -36,7 +36,7 @@ abbrev pub wants_fork : Want → Bool
 wants_fork Fork = true
 wants_fork w = false
 
--- a strand that wants this goes on once it is answered
+-- a strand with this want goes on after an answer
 abbrev pub takes_answer : Want → Bool
 takes_answer Fork = false
 takes_answer Sync = false
@@ -44,13 +44,13 @@ takes_answer Done = false
 takes_answer (Fault k) = false
 takes_answer w = true
 
--- what is to be written back names elements of the cells, of which there are so many
+-- what is to be written back names elements of the cells, of which there are n
 abbrev pub AreElements : ℕ → List Back → Type 0
 AreElements n [] = Unit {0}
 AreElements n (b ∷ bs) = (b.cell < n) × AreElements n bs
 
--- This answers that want, where the cells have so many elements: a value a load; what is to be written back a cancel; nothing a store, an
--- output, and the begin and the end of a block.
+-- The answer fits the want, if the cells have n elements. A load gets a value, a cancel what is to be written back. A
+-- store, an output, and the begin and the end of a block get nothing.
 abbrev pub IsAnswer : (elements : ℕ) → Want → Given → Type 0
 IsAnswer n (Load c) (Value v) = Unit {0}
 IsAnswer n (Store c v) Nothing = Unit {0}
@@ -62,17 +62,17 @@ IsAnswer n w given = ⊥
 
 -- ## Blocks
 --
--- Numbers say how many blocks are begun and not ended: in the strand itself; then, where it is the right one of a fork, in the
--- strand that forked; and so on, up to a left one or that of main.
+-- The numbers in a list say how many blocks are begun and not ended: first in the strand itself; then, if it is the
+-- right one of a fork, in the strand that forked; and so on, up to a left one or that of main.
 
--- what becomes of them once a want is answered
+-- the numbers after a want is answered
 abbrev pub own_after : Want → List ℕ → List ℕ
 own_after Begin (b ∷ bs) = suc b ∷ bs
 own_after End (suc b ∷ bs) = b ∷ bs
 own_after w bs = bs
 
--- What a strand with these numbers of blocks may want: an end or a cancel where it began a block itself; with no such block left, a sync
--- where it is a right strand, and to be done where it is another one; all else at any time.
+-- What a strand with these numbers of blocks may want: an end or a cancel if it began a block itself; without such a
+-- block a sync if it is a right strand, and to be done if it is any other; all else at any time.
 abbrev pub MayWant : Want → List ℕ → Type 0
 MayWant End (suc b ∷ bs) = Unit {0}
 MayWant End bs = ⊥
@@ -87,8 +87,8 @@ MayWant w bs = Unit {0}
 -- ## Runs of strands
 
 module _ {A : Type 0} (s : Strands A) where
-  -- From one want of a strand to a later one of the same strand: each want is answered with what it takes, and where the strand
-  -- forks both strands of the fork come to their ends and are joined.
+  -- From one want of a strand to a later one of the same strand. Each want gets an answer that it takes. If the strand
+  -- forks, both strands of the fork come to their ends and are joined.
   pub data GoesTo : List ℕ → A → List ℕ → A → Type 0 where
     stays : {own : List ℕ} {a : A} → GoesTo own a own a
     answered : {from own : List ℕ} {a b : A} → GoesTo from a own b → (given : Given) → IsAnswer s.elements (s.want b) given → GoesTo from a (own_after (s.want b) own) (s.answer b given)
@@ -97,20 +97,20 @@ module _ {A : Type 0} (s : Strands A) where
         → GoesTo (0 ∷ own) (s.right b) (n ∷ own) right → is_over (s.want right) ≡ true
         → GoesTo from a own (s.joined right left)
 
-  -- What the strands of a run may come to: that of main, and the two of each fork.
+  -- What the strands of a run may become: that of main, and the two of each fork.
   pub data Reached : List ℕ → A → Type 0 where
     of_main : {own : List ℕ} {a : A} → GoesTo (0 ∷ []) s.start own a → Reached own a
     of_left : {above own : List ℕ} {f a : A} → Reached above f → s.want f ≡ Fork → GoesTo (0 ∷ []) (s.left f) own a → Reached own a
     of_right : {above own : List ℕ} {f a : A} → Reached above f → s.want f ≡ Fork → GoesTo (0 ∷ above) (s.right f) own a → Reached own a
 
-  -- The depth falls at each fork, on both sides, and at each answer. It does not rise where two strands become one.
+  -- The depth falls at each fork, on both sides, and at each answer. It does not rise at a join.
   pub record IsDeep : Type 0 where
     pub left : (a : A) → s.want a ≡ Fork → s.depth (s.left a) < s.depth a
     pub right : (a : A) → s.want a ≡ Fork → s.depth (s.right a) < s.depth a
     pub answer : (a : A) (given : Given) → takes_answer (s.want a) ≡ true → s.depth (s.answer a given) < s.depth a
     pub joined : (right left : A) → s.depth (s.joined right left) ≤ s.depth right
 
-  -- A block ends in the strand that began it, and a strand ends only once its own blocks have ended.
+  -- A block ends in the strand that began it, and a strand ends only after its own blocks.
   abbrev pub Closes : Type 0
   Closes = (own : List ℕ) (a : A) → Reached own a → MayWant (s.want a) own
 

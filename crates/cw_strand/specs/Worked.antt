@@ -65,24 +65,24 @@ Faults =
     × (faulty (codes "fn f() {} fn main() { f = 1; }") ≡ names.fault NotALocal 1)
     × (faulty (codes "fn f(a,\n a) {} fn main() {}") ≡ names.fault Twice 2)
 
--- The strand of a fork that is not at work: the right one, before it begins, or the left one, at its end.
+-- The strand of a fork that does not run now: the right one, before it begins, or the left one, at its end.
 pub data Other (A : Type 0) : Type 0 where
   to_come : A → Other A
   ended : A → Other A
 
 module _ {A : Type 0} (s : Strands A) (go : List Given → List (Other A) → A → List Want) where
-  -- after an end the right strand goes on, and after that one's the strand that forked
+  -- after its end, a left strand is followed by the right one, and a right one by the strand that forked
   abbrev pub after_end : List Given → List (Other A) → A → List Want
   after_end gs [] a = []
   after_end gs (to_come right ∷ others) a = go gs (ended a ∷ others) right
   after_end gs (ended left ∷ others) a = go gs others (s.joined a left)
 
-  -- the next of the answers that are left
+  -- goes on with the next of the answers that are left
   abbrev pub after_answer : List Given → List (Other A) → A → List Want
   after_answer [] others a = []
   after_answer (g ∷ gs) others a = go gs others (s.answer a g)
 
-  -- after a want, with the answers that are left for loads and cancels
+  -- goes on after a want, with the answers that are left for loads and cancels
   abbrev pub after_want : Want → List Given → List (Other A) → A → List Want
   after_want (Load c) gs others a = after_answer gs others a
   after_want Cancel gs others a = after_answer gs others a
@@ -92,7 +92,7 @@ module _ {A : Type 0} (s : Strands A) (go : List Given → List (Other A) → A 
   after_want (Fault k) gs others a = []
   after_want w gs others a = go gs others (s.answer a Nothing)
 
--- What the strands want, each left one up to its end before its right one, where loads and cancels are answered so.
+-- What the strands want, each left one up to its end before its right one, if loads and cancels get these answers.
 abbrev pub asked : {A : Type 0} → Strands A → ℕ → List Given → List (Other A) → A → List Want
 asked s zero gs others a = []
 asked s (suc n) gs others a = s.want a ∷ after_want s (λ us more b. asked s n us more b) (s.want a) gs others a
@@ -118,7 +118,7 @@ Wants = WantsWith []
 
 -- ## Cancels
 
--- the tree of a text in language 2, behind the line that says so
+-- the tree of a text in language 2, behind its heading
 abbrev pub newer_tree : List ℕ → List Declaration
 newer_tree text = given (program_of (lexemes (keywords_of 2) text)) where
   given : Result (List Declaration) TextFault → List Declaration
@@ -138,7 +138,7 @@ Asks fuel size text gs ws =
     (let s = meaning.strands_of_syntax (newer_tree text) [] (within fuel size) in asked s 20 gs [] s.start ≡ ws)
     × (let s = compiled (newer_tree text) [] (within fuel size) in asked s 20 gs [] s.start ≡ ws)
 
--- A cancel stands inside an atomic block of its function, and inside no spawned block in that.
+-- A cancel has to be inside an atomic block of its function, and inside no spawned block within that.
 abbrev pub Outside : Type 0
 Outside =
     (newer_faulty (codes "fn main() {\ncancel; }") ≡ names.fault CancelOutside 2)
@@ -153,7 +153,7 @@ Outside =
     × (newer_faulty (codes "fn main() { spawn { atomic { cancel; } } }") ≡ None)
     × (newer_faulty (codes "fn main() { atomic { if 1 { while 1 { cancel; } } } }") ≡ None)
 
--- What the block wrote is written back, a store after the other, and nothing comes between that and the end of the block. Locals stay.
+-- What the block wrote is written back, one store after the other, and nothing comes between that and the end of the block. Locals stay.
 abbrev pub Cancels : Type 0
 Cancels =
     Asks 9 9 (codes "cell c = 5; fn main() { atomic { c = 9; out c; cancel; out 1; } out c; }") (Value (pos 9) ∷ Wrote (back 0 (pos 5) ∷ []) ∷ Value (pos 5) ∷ [])
@@ -165,7 +165,7 @@ Cancels =
     (Begin ∷ Store 0 (pos 7) ∷ Cancel ∷ Store 0 (pos 0) ∷ End ∷ Out (pos 9) ∷ Out (pos 2) ∷ Done ∷ [])
     × Asks 29 19 (codes "cell c; fn main() { let i = 0; atomic { while 1 { i = i + 1; c = i; if i == 3 { cancel; } } } out i; }") (Wrote (back 0 (pos 0) ∷ []) ∷ [])
     (Begin ∷ Store 0 (pos 1) ∷ Store 0 (pos 2) ∷ Store 0 (pos 3) ∷ Cancel ∷ Store 0 (pos 0) ∷ End ∷ Out (pos 3) ∷ Done ∷ [])
-    -- a cancel and each store that writes back count one
+    -- A cancel counts one, and so does each store that writes back
     × Asks 9 3 (codes "cell c; cell d; fn main() { atomic { c = 1; d = 2; cancel; } }") [] (Begin ∷ Store 0 (pos 1) ∷ Store 1 (pos 2) ∷ Fault Size ∷ [])
     × Asks 9 5 (codes "cell c; cell d; fn main() { atomic { c = 1; d = 2; cancel; } }") (Wrote (back 0 (pos 0) ∷ back 1 (pos 0) ∷ []) ∷ []) (Begin ∷ Store 0 (pos 1) ∷ Store 1 (pos 2) ∷ Cancel ∷ Store 0 (pos 0) ∷ Fault Size ∷ [])
     × Asks 9 6 (codes "cell c; cell d; fn main() { atomic { c = 1; d = 2; cancel; } }") (Wrote (back 0 (pos 0) ∷ back 1 (pos 0) ∷ []) ∷ [])
@@ -182,7 +182,7 @@ Traces =
     × Wants 9 9 (codes "cell a; cell b; fn main() { let x = a - b; x = x * x; b = !x; out x >= 4; }") (pos 1 ∷ pos 3 ∷ []) (Load 0 ∷ Load 1 ∷ Store 1 (pos 0) ∷ Out (pos 1) ∷ Done ∷ [])
     × Wants 9 9 (codes "fn main() { out 9223372036854775807 + 1; }") [] (Fault Overflow ∷ [])
 
--- An index is tested before it counts, behind the value that is stored; the remainder of the least number by -1 is a fault.
+-- An index is tested after the value that is stored, and before the store counts. The remainder of the least number by -1 is a fault.
 abbrev pub Arrays : Type 0
 Arrays =
     Wants 9 9 (codes "cell a[3] = 2; fn main() { a[1] = a[0] * 5; a[3] = 1; }") (pos 2 ∷ []) (Load 0 ∷ Store 1 (pos 10) ∷ Fault Range ∷ [])
@@ -190,8 +190,8 @@ Arrays =
     × Wants 9 1 (codes "cell c; cell a[2]; fn main() { c = 1; a[2] = 1; }") [] (Store 0 (pos 1) ∷ Fault Range ∷ [])
     × Wants 9 9 (codes "fn main() { out 7 / 2; out -7 / 2; out -7 % 2; out 7 % -2; out (0 - 9223372036854775807 - 1) % -1; }") [] (Out (pos 3) ∷ Out (negsuc 2) ∷ Out (negsuc 0) ∷ Out (pos 1) ∷ Fault Overflow ∷ [])
 
--- After a fork come the wants of its left strand up to the end, those of its right one up to its sync, and then those of the
--- strand that forked.
+-- After a fork come the wants of its left strand up to its end, then those of its right strand up to its sync, and then
+-- those of the strand that forked.
 abbrev pub Forks : Type 0
 Forks =
     Wants 9 9 (codes "cell c; fn main() { atomic { spawn { c = c + 1; } c = c + 1; } }") (pos 0 ∷ pos 1 ∷ []) (Begin ∷ Fork ∷ Load 0 ∷ Store 0 (pos 1) ∷ Done ∷ Load 0 ∷ Store 0 (pos 2) ∷ Sync ∷ End ∷ Done ∷ [])
@@ -201,7 +201,7 @@ Forks =
     × Wants 9 9 (codes "fn main() { let x = 1; spawn { x = 2; let y = 3; out y; } sync; out x; }") [] (Fork ∷ Out (pos 3) ∷ Done ∷ Sync ∷ Out (pos 1) ∷ Done ∷ [])
     × Wants 9 9 (codes "fn main() { let x = 1; atomic { let y = 2; x = y; } let y = 3; out x; out y; }") [] (Begin ∷ End ∷ Out (pos 2) ∷ Out (pos 3) ∷ Done ∷ [])
 
--- A unit of fuel is due at each statement, along the longest way; what both strands of a fork counted is added where they are joined.
+-- Each statement costs a unit of fuel, along the longest way. What both strands of a fork counted is added when they are joined.
 abbrev pub Spent : Type 0
 Spent =
     Wants 9 3 count_one (pos 0 ∷ pos 1 ∷ []) (Load 0 ∷ Store 0 (pos 1) ∷ Load 0 ∷ Fault Size ∷ [])
@@ -231,7 +231,8 @@ Loops =
     × Wants 100 9 (codes "fn main() { let i = 0; while i < 49 { i = i + 1; } }") [] (Done ∷ [])
     × Wants 99 9 (codes "fn main() { let i = 0; while i < 49 { i = i + 1; } }") [] (Fault Fuel ∷ [])
 
--- Arguments come before the unit of a call, from left to right. A value of a call as a statement is dropped, and a function without `return` gives 0.
+-- Arguments come before the unit of a call, from left to right. The value of a call as a statement is dropped. A
+-- function without `return` gives 0.
 abbrev pub Calls : Type 0
 Calls =
     Wants 99 9 (codes "fn f(x, y) { let z = y - x; return z; } fn main() { let z = 1; out f(2, 5) + z; }") [] (Out (pos 4) ∷ Done ∷ [])
@@ -251,7 +252,7 @@ Returns =
     × Wants 99 9 (codes "fn f(n) { if n { spawn { out n; } f(n - 1); } } fn main() { f(2); out 9; }") [] (Fork ∷ Out (pos 2) ∷ Done ∷ Fork ∷ Out (pos 1) ∷ Done ∷ Sync ∷ Sync ∷ Out (pos 9) ∷ Done ∷ [])
     × Wants 99 9 (codes "fn f() { atomic { spawn { out 1; } } return 2; } fn main() { spawn { } out f(); }") [] (Fork ∷ Done ∷ Begin ∷ Fork ∷ Out (pos 1) ∷ Done ∷ Sync ∷ End ∷ Out (pos 2) ∷ Sync ∷ Done ∷ [])
 
--- what a step stops at, where it does not go on by itself
+-- the want at which a step stops, if it does not go on by itself
 abbrev pub stop_of : {S : Type 0} → LocalStep S → Option Want
 stop_of (on s) = None
 stop_of (wants w s) = Some w
@@ -260,7 +261,7 @@ stop_of stuck = Some Done
 abbrev pub main_alone : List Declaration
 main_alone = tree (codes "fn main() { main(); }")
 
--- main calls itself where so many functions stand, over the syntax and over the code
+-- main calls itself with n active functions, over the syntax and over the code
 abbrev pub called_among : ℕ → Option Want
 called_among n = stop_of (meaning.step [] (function_of main_alone) (within 9 9) (record {
   todo = enter (codes "main") 0 ∷ [];
@@ -286,7 +287,7 @@ code_called_among n = stop_of (coded.step (code_of main_alone) (record {
   limits = within 9 9;
 }))
 
--- Where 10,000 functions stand none begins.
+-- With 10,000 active functions none begins.
 abbrev pub Depths : Type 0
 Depths =
     (called_among 9999 ≡ None)
@@ -298,7 +299,7 @@ Depths =
 abbrev pub Compiles : List ℕ → Code → Type 0
 Compiles text code = code_of (tree text) ≡ code
 
--- A number of an ended block is used again, and a fork's target lies behind what it spawns. A loop jumps back to its tick.
+-- The number of an ended block is used again. A fork's target lies behind what it spawns. A loop jumps back to its tick.
 abbrev pub Codes : Type 0
 Codes =
     Compiles (codes "cell c; fn main() { atomic { let x = -c; } let y = 2; spawn { out y; } }") (record {
@@ -327,16 +328,16 @@ Codes =
           ∷ tick ∷ push (pos 1) ∷ push (pos 2) ∷ push (pos 3) ∷ call 0 ∷ call 0 ∷ discard ∷ wait ∷ push (pos 0) ∷ ret ∷ [];
     })
 
--- what a strand has become once it got these answers, the newest first
+-- what a strand has become after these answers, the newest first
 abbrev pub after_answers : {A : Type 0} → Strands A → List Given → A
 after_answers s [] = s.start
 after_answers s (g ∷ gs) = s.answer (after_answers s gs) g
 
--- what a strand stands at and what it has to do once that is answered, once it got these answers, the newest first
+-- what a strand is at, and what it has to do after that, once it got these answers, the newest first
 abbrev pub standing : List ℕ → List Given → Want × List Task
 standing text given = let x = after_answers (meaning.strands_of_syntax (tree text) [] (within 9 9)) given in (x.want, x.state.todo)
 
--- Both are over, the second one too early: its name stands for nothing.
+-- Both are over. The second ends too early, since its name means nothing.
 abbrev pub Endings : Type 0
 Endings =
     (standing (codes "cell c; fn main() { let x = c; out x * x; }") (Nothing ∷ Value (pos 3) ∷ []) ≡ (Done, finish_main ∷ []))

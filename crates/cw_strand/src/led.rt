@@ -1,6 +1,6 @@
 use crate::Want;
 
-/// What a step leads to: on, or to a want.
+/// What a step leads to: it goes on, or it reaches a want.
 #[derive(Clone, Copy)]
 pub enum Led {
     On,

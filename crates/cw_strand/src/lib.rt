@@ -1,10 +1,11 @@
 //! What a strand means: which names a program may use, what a strand wants next, what an answer makes of it, and which
-//! strands a fork and a join make of it. Stands on `cw_base`, `cw_text` and `cw_code`.
-//! `specs/Strands.antt` is the law of strands that all layers above take as a parameter, and `specs/Running.antt` makes one from steps. It
-//! is given twice: by `specs/Meaning.antt` from the syntax tree, and by `specs/Coded.antt` from compiled code; `specs/Compilation.antt` is
-//! the code of a tree. `specs/Names.antt` has the naming rules, `specs/Arithmetic.antt` the operators, `specs/Pasts.antt` what it is that
-//! two laws want the same, `specs/Saving.antt` what is inside a block and what it needs to go back to its begin. `specs/Laws.antt` has what
-//! holds of strands, `specs/Worked.antt` the worked programs.
+//! strands a fork and a join make of it. Use it to move a strand in memory, or to say in a contract what strands do.
+//! Contracts cite `specs/Strands.antt` (the law of strands, which all layers above take as a parameter) and
+//! `specs/Running.antt` (which makes a law from steps). The law is given twice: by `specs/Meaning.antt` from the syntax
+//! tree and by `specs/Coded.antt` from compiled code. `specs/Compilation.antt` is the code of a tree.
+//! `specs/Names.antt` has the naming rules, `specs/Arithmetic.antt` the operators, `specs/Pasts.antt` what it means
+//! that two laws want the same, `specs/Saving.antt` what is inside a block and what a strand needs to go back to its
+//! begin. `specs/Laws.antt` has what holds of strands, `specs/Worked.antt` the worked programs.
 #![tactic(auto)]
 
 ghost use Rattle.cw_strand.specs.Laws.{LocalWorkEnds, ForksEnd, EndsOnlyWhenDone, BlocksClose, StrandsAreLawful};
@@ -43,25 +44,25 @@ pub fn worked_programs()
     ensures depths { Depths }
 {}
 
-/// Over the syntax a strand never goes on by itself for ever: it always comes to a want, and stands there.
+/// Over the syntax a strand never goes on by itself for ever: it always reaches a want.
 pub fn local_work_ends()
     ensures { LocalWorkEnds }
 {}
 
-/// Over the syntax no more forks and answers follow each other than a strand's depth says.
+/// Over the syntax the depth of a strand bounds how many forks and answers follow each other.
 pub fn forks_end()
     ensures { ForksEnd }
 {}
 
-/// Over the syntax a strand of a program without a naming fault, also the left one of a fork, is done only where it has done all that it
-/// had to do, with no operand left over but, of main, its own value.
+/// Over the syntax, in a program without a naming fault, a strand is done only if it has done all that it had to do.
+/// This also holds for the left strand of a fork. No operand is left over, except main's own value.
 pub fn ends_only_when_done()
     ensures ends { EndsOnlyWhenDone }
     ensures worked { Endings }
 {}
 
-/// Over the syntax a block ends in the strand that began it, and a strand ends only once its own blocks have ended: a right one at a
-/// sync, another one where it is done.
+/// Over the syntax a block ends in the strand that began it. A strand ends only after its own blocks: a right strand at
+/// a sync, any other when it is done.
 pub fn blocks_close()
     ensures { BlocksClose }
 {}
@@ -71,36 +72,36 @@ pub fn strands_are_lawful()
     ensures { StrandsAreLawful }
 {}
 
-/// Over code that breaks no rule no strand ever lacks what it needs: each of its functions stands at a place of the code, with the locals and
-/// the operands that stand there, and so it does wherever the strand goes.
+/// Over code that breaks no rule, no strand ever lacks what it needs. Each of its functions is at a place of the code,
+/// with the locals and as many operands as the rules say of that place, and this stays true wherever the strand goes.
 pub fn code_is_never_stuck()
     ensures lacks { CodeIsNeverStuck }
     ensures on { StandsOn }
     ensures visited { VisitedStand }
 {}
 
-/// Over code that breaks no rule no strand goes on by itself for ever.
+/// Over code that breaks no rule, no strand goes on by itself for ever.
 pub fn code_work_ends()
     ensures { CodeWorkEnds }
 {}
 
-/// Over code that breaks no rule no more forks and answers follow each other than a strand's depth says.
+/// Over code that breaks no rule, the depth of a strand bounds how many forks and answers follow each other.
 pub fn code_forks_end()
     ensures { CodeForksEnd }
 {}
 
-/// Over code that breaks no rule a strand loads and stores only elements of the cells.
+/// Over code that breaks no rule, a strand loads and stores only elements of the cells.
 pub fn code_names_elements()
     ensures { CodeNamesElements }
 {}
 
-/// Over code that breaks no rule, in which no instruction is a cancel, no strand gives up a block.
+/// Over code that breaks no rule and has no cancel, no strand gives up a block.
 pub fn code_gives_up_nothing()
     ensures { CodeGivesUpNothing }
 {}
 
-/// Over code that breaks no rule what stood below the begin of a block stands there still for each strand inside the block: so each may go
-/// back to the begin, with what was kept there.
+/// Over code that breaks no rule, what was below the begin of a block is still there for each strand inside the block.
+/// So each may go back to the begin, with what was kept there.
 pub fn begin_stays_below()
     ensures { BeginStaysBelow }
 {}
@@ -110,18 +111,18 @@ pub fn compiled_code_breaks_no_rule()
     ensures { BreaksNoRule }
 {}
 
-/// The code of a program has a cancel exactly where its text has one.
+/// The code of a program has a cancel exactly if its text has one.
 pub fn compiled_code_has_its_cancels()
     ensures { CodeHasItsCancels }
 {}
 
-/// Compiled code wants what the source wants: after whatever may have happened to a strand, it stands at the same want over the syntax and
-/// over the code.
+/// Compiled code wants what the source wants: whatever has happened to a strand, it is at the same want over the syntax
+/// and over the code.
 pub fn compiled_code_wants_the_same()
     ensures { WantsOfTheSource }
 {}
 
-/// A strand of compiled code is done only where the strand of the source, to which the same has happened, has done all that it had to do.
+/// A strand of compiled code is done only if the strand of the source with the same past has done all that it had to do.
 pub fn code_ends_only_when_done()
     ensures { CodeEndsOnlyWhenDone }
 {}
@@ -131,13 +132,13 @@ pub fn code_is_lawful()
     ensures { CodeIsLawful }
 {}
 
-/// Of two laws of strands that want the same: what can be over the one can be over the other, so that the other wants the same too.
+/// If two laws of strands want the same, a past that can be over one can be over the other, so the other wants the same too.
 pub fn the_same_can_be<A, B>()
     ensures pasts { (s : Strands A) (t : Strands B) → WantTheSame s t → (p : Past) → CanBe s p ↔ CanBe t p }
     ensures back { (s : Strands A) (t : Strands B) → WantTheSame s t → WantTheSame t s }
 {}
 
-/// Of two laws of strands that want the same: where blocks close over the one, they close over the other.
+/// If two laws of strands want the same and blocks close over one, they close over the other.
 pub fn closes_with_it<A, B>()
     ensures { (s : Strands A) (t : Strands B) → ClosesWithIt s t }
 {}

@@ -3,14 +3,14 @@ ghost use Rattle.cw_strand.specs.Arithmetic.{truth, one, two};
 
 use cw_code::{FaultKind, Operator};
 
-/// 1 where something holds, else 0.
+/// Returns 1 if `holds`, otherwise 0.
 fn truth(holds: bool) -> Result<i64, FaultKind>
     ensures { result ≡ truth holds }
 {
     Ok(i64::from(holds))
 }
 
-/// An operator of one operand, at that operand.
+/// Applies a unary operator to `x`.
 pub fn one(operator: Operator, x: i64) -> Result<i64, FaultKind>
     ensures { result ≡ one operator x }
 {
@@ -21,7 +21,7 @@ pub fn one(operator: Operator, x: i64) -> Result<i64, FaultKind>
     }
 }
 
-/// An operator of two operands, at the left and the right one.
+/// Applies a binary operator to `x` and `y`.
 pub fn two(operator: Operator, x: i64, y: i64) -> Result<i64, FaultKind>
     ensures { result ≡ two operator x y }
 {

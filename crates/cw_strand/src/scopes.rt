@@ -6,7 +6,7 @@ use cw_base::OutOfMemory;
 use std::alloc::Global;
 use std::marker::Model;
 
-/// The scopes that are open, each with how many forks it has to wait for at its end. Contracts see the innermost first.
+/// The open scopes, each with how many forks it waits for at its end. Contracts see the innermost first.
 #[derive(Drop)]
 pub struct Scopes {
     forks: Vec<u32>,
@@ -43,7 +43,7 @@ impl Scopes {
         Ok(())
     }
 
-    /// One scope more opens, that of a block.
+    /// Opens the scope of a block.
     pub fn open(&mut self) -> Result<(), OutOfMemory>
         ensures { OnOk result (self.new ≡ one_inside self.old) }
     {
@@ -60,14 +60,14 @@ impl Scopes {
         self.forks.pop()
     }
 
-    /// What the innermost one has to wait for.
+    /// How many forks the innermost scope waits for.
     pub fn newest(&self) -> Option<u32>
         ensures { MatchOption result (self.now ≡ []) (λ x. self.now ≡ x ∷ drop 1 self.now) }
     {
         self.forks.last().copied()
     }
 
-    /// The outermost so many are left, and on them one that has nothing to wait for. Takes no memory.
+    /// Keeps the outermost `below` scopes, and opens one on them that waits for nothing. Takes no memory.
     pub fn reopen(&mut self, below: usize)
         requires { below < length self.old }
         ensures { self.new ≡ 0 ∷ lowest below self.old }

@@ -35,21 +35,21 @@ impl Model for Frame {
     ghost view = { λ f. record { place = f.place; operands = f.operands; locals = f.locals.items } };
 }
 
-/// A strand of code: the function that stands, those that wait for it, and what was counted.
+/// A strand of code: its current function, the functions that wait for it, and what was counted.
 #[derive(Drop)]
 pub struct Strand {
     place: usize,
     operands: Stack<i64>,
     locals: Vec<i64>,
     callers: Stack<Frame>,
-    /// For each scope that waits at its end, how many forks it has to wait for.
+    /// For each scope that waits at its end, how many forks it waits for.
     scopes: Scopes,
     fuel: u64,
-    /// Past the limit only where two strands were joined.
+    /// Past the limit only if two strands were joined.
     size: u64,
     /// Where the left strand of the newest fork begins.
     beside: usize,
-    /// What it was told to write back, and how much of that it wrote.
+    /// What the strand was told to write back, and how much of it is written.
     back: Seq<Back>,
     written: usize,
     limits: Limits,
@@ -79,7 +79,7 @@ impl Strand {
     ghost use Rattle.cw_strand.specs.Coded.{MainTakes, runs, left as left_of, joined as joined_of};
     ghost use Rattle.cw_strand.specs.Standing.{StandsIn, StandsWanting, NextFrom};
 
-    /// The strand of a program's main, with the words of the command, before its first step.
+    /// Returns the strand of a program's main, with the words of the command, before its first step.
     pub fn main(
         alloc: Global,
         program: &Program,
@@ -114,7 +114,7 @@ impl Strand {
         })
     }
 
-    /// Goes on from its want, with what that was given, to the next.
+    /// Answers the want with `given` and goes on to the next want.
     pub fn next(&mut self, program: &Program, given: Given) -> Result<Want, OutOfMemory>
         requires { StandsIn program.now.code self.old }
         ensures next { IfOk result (λ w. NextFrom program.now.code self.old given w self.new) }
@@ -130,7 +130,7 @@ impl Strand {
         }
     }
 
-    /// The left strand of the newest fork, before its first step. This one goes on as the right strand.
+    /// Returns the left strand of the newest fork, before its first step. This strand goes on as the right one.
     pub fn fork(&mut self) -> Result<Strand, OutOfMemory>
         ensures left { IfOk result (λ s. s ≡ left_of self.old) }
         ensures right { self.new ≡ self.old }
@@ -154,8 +154,8 @@ impl Strand {
         })
     }
 
-    /// The right strand, where it ended, goes on as the strand that forked. Where one of the two was given up before its end, it stands there as
-    /// that strand. Takes no memory.
+    /// Joins the left strand to this one, the right strand, which has ended and goes on as the strand that forked. If
+    /// one of the two was given up before its end, the strand that forked is where this one is. Takes no memory.
     pub fn joined(&mut self, left: Strand)
         ensures joined { self.new ≡ joined_of self.old left }
         ensures stands { (code : Code) → StandsIn code self.old → StandsIn code self.new }

@@ -1,21 +1,21 @@
 use cw_base::Seq;
 use cw_code::{Back, FaultKind};
 
-/// What a strand stands at.
+/// What a strand needs done before it goes on.
 #[derive(Clone, Copy, PartialEq, Eq, Debug)]
 pub enum Want {
-    /// The value of an element, by the element's number.
+    /// Read the element with this number.
     Load(u32),
-    /// A new value of an element.
+    /// Write a value to an element.
     Store(u32, i64),
     Out(i64),
-    /// A block is to begin.
+    /// Begin a block.
     Begin,
-    /// The innermost block is to end.
+    /// End the innermost block.
     End,
-    /// The innermost block is given up: what stood there before its writes is to be written back.
+    /// Give up the innermost block: the values from before its writes are to be written back.
     Cancel,
-    /// A strand beside this one is to start; this one goes on as the right one.
+    /// Start a strand beside this one, which goes on as the right strand.
     Fork,
     /// Nothing more: as a right strand it has ended, and waits for the left one.
     Sync,
@@ -25,8 +25,8 @@ pub enum Want {
     Fault(FaultKind),
 }
 
-/// What a want is answered with: a `Load` with a value; a `Cancel` with what is to be written back, in this order; a `Store`, an `Out`, a
-/// `Begin` and an `End` with nothing.
+/// The answer to a want. A `Load` gets a value, a `Cancel` what is to be written back, in this order. A `Store`, an
+/// `Out`, a `Begin` and an `End` get nothing.
 #[derive(Drop)]
 pub enum Given {
     Nothing,

@@ -12,7 +12,7 @@ impl Strand {
     ghost use Rattle.cw_strand.specs.Acting.{TakesEffect, Needs, led_to};
     ghost use Rattle.cw_strand.specs.Standing.{StandsIn};
 
-    /// A value takes the place of the operand that stands for it; what is to be written back comes before all else.
+    /// Applies an answer. A value replaces the operand that holds its place. What is to be written back comes before all else.
     pub(crate) fn answer(&mut self, given: Given) -> Result<(), OutOfMemory>
         ensures { OnOk result (self.new ≡ with_value given self.old) }
     {
@@ -31,7 +31,7 @@ impl Strand {
         Ok(())
     }
 
-    /// The next of what is to be written back.
+    /// Takes the next value that is to be written back.
     fn next_back(&mut self) -> Option<Back>
         ensures { MatchOption result (self.old.back ≡ [] × (self.new ≡ self.old))
             (λ b. (self.old.back ≡ b ∷ self.new.back) × (self.new ≡ record self.old { back = self.new.back })) }
@@ -44,7 +44,7 @@ impl Strand {
         Some(back)
     }
 
-    /// One step.
+    /// Does one step.
     pub(crate) fn step(&mut self, code: &Code) -> Result<Led, OutOfMemory>
         requires sound { faults code.now ≡ [] }
         requires stands { StandsIn code.now self.old }
@@ -59,7 +59,7 @@ impl Strand {
         }
     }
 
-    /// What the instruction does that stands at its place.
+    /// Does the instruction at the strand's place.
     fn instruction(&mut self, code: &Code) -> Result<Led, OutOfMemory>
         requires sound { faults code.now ≡ [] }
         requires stands { StandsIn code.now self.old }
@@ -74,7 +74,7 @@ impl Strand {
         self.act(code, effect, instr, self.place + 1)
     }
 
-    /// Does an instruction, with the place behind it.
+    /// Does the effect of an instruction. `next` is the place behind it.
     fn act(
         &mut self,
         code: &Code,

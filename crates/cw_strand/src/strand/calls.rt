@@ -14,10 +14,10 @@ use cw_code::{Code, FaultKind, Func, Instr};
 use std::alloc::Global;
 use std::mem;
 
-/// How many functions may stand at once.
+/// The most functions that may be active at once.
 const MOST_FRAMES: usize = 10000;
 
-/// The locals of a function that begins: the arguments, which it takes from the operands, and zeros.
+/// Returns the locals of a function that begins: the arguments, which are taken from the operands, then zeros.
 pub fn take_locals(
     alloc: Global,
     operands: &mut Stack<i64>,
@@ -53,7 +53,7 @@ impl Strand {
         Led::On
     }
 
-    /// Begins a function, within the limits. The current one waits for it, to go on behind the call.
+    /// Begins a function, within the limits. The caller waits, to go on behind the call.
     pub(crate) fn call(
         &mut self,
         code: &Code,
@@ -78,7 +78,7 @@ impl Strand {
         Ok(Led::On)
     }
 
-    /// The first step into a function.
+    /// Enters a function. The caller waits, to go on at `next`.
     fn enter(&mut self, func: Func, next: usize) -> Result<(), OutOfMemory>
         requires { HasArguments func self.old }
         ensures { OnOk result (self.new ≡ function_entered func next self.old) }
@@ -95,7 +95,7 @@ impl Strand {
         Ok(())
     }
 
-    /// Goes back to the function that waits, with one operand more there, or ends where none waits.
+    /// Returns to the function that waits, which gets the value as an operand. Ends the strand if no function waits.
     pub(crate) fn ret(&mut self) -> Result<Led, OutOfMemory>
         requires { 0 < length self.old.current.operands }
         ensures { (code : Code) (i : Instr) (p : ℕ) → IfOk result (λ l. TakesEffect code ret i p self.old l self.new) }

@@ -14,7 +14,7 @@ use cw_code::{FaultKind, Instr};
 impl Strand {
     ghost use Rattle.cw_strand.specs.Acting.{TakesEffect, led_to};
 
-    /// Wants what counts one, within the limit.
+    /// Wants something that counts one, within the limit.
     pub(crate) fn count(&mut self, want: Want) -> Led
         ensures { counts want self.old ≡ led_to result self.new }
     {
@@ -25,7 +25,7 @@ impl Strand {
         Led::Wants(want)
     }
 
-    /// Wants a cell's value, for which an operand stands till it comes.
+    /// Wants a cell's value. An operand holds its place until it comes.
     pub(crate) fn load(&mut self, instr: Instr, next: usize) -> Result<Led, OutOfMemory>
         requires { index instr.a < 2 ^ 32 }
         ensures { (code : Code) → IfOk result (λ l. TakesEffect code load instr next self.old l self.new) }
@@ -35,7 +35,7 @@ impl Strand {
         Ok(self.count(Want::Load(index(instr.a) as u32)))
     }
 
-    /// Wants a cell to have an operand's value.
+    /// Wants to store an operand's value in a cell.
     pub(crate) fn store(&mut self, instr: Instr, next: usize) -> Led
         requires there { index instr.a < 2 ^ 32 }
         requires room { 0 < length self.old.current.operands }
@@ -48,7 +48,7 @@ impl Strand {
         self.count(Want::Store(index(instr.a) as u32, value))
     }
 
-    /// Wants the value of the element of an array that an operand names.
+    /// Wants the value of an array element, whose index is an operand.
     pub(crate) fn load_at(&mut self, instr: Instr, next: usize) -> Result<Led, OutOfMemory>
         requires there { index instr.a + instr.b ≤ 2 ^ 32 }
         requires room { 0 < length self.old.current.operands }
@@ -70,7 +70,7 @@ impl Strand {
         }
     }
 
-    /// Wants the element of an array that an operand names to have another operand's value.
+    /// Wants to store an operand's value in an array element, whose index is another operand.
     pub(crate) fn store_at(&mut self, instr: Instr, next: usize) -> Result<Led, OutOfMemory>
         requires there { index instr.a + instr.b ≤ 2 ^ 32 }
         requires room { 1 < length self.old.current.operands }
@@ -92,7 +92,7 @@ impl Strand {
         }
     }
 
-    /// Wants an operand to be put out.
+    /// Wants to output an operand.
     pub(crate) fn out(&mut self, next: usize) -> Led
         requires { 0 < length self.old.current.operands }
         ensures { (code : Code) (i : Instr) → TakesEffect code out i next self.old result self.new }

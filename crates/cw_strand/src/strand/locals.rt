@@ -13,7 +13,7 @@ use cw_code::Instr;
 impl Strand {
     ghost use Rattle.cw_strand.specs.Acting.{TakesEffect};
 
-    /// A local's value is one operand more.
+    /// Pushes the value of a local as an operand.
     pub(crate) fn read_local(&mut self, instr: Instr, next: usize) -> Result<Led, OutOfMemory>
         requires { index instr.a < length self.old.current.locals }
         ensures { (code : Code) → IfOk result (λ l. TakesEffect code local instr next self.old l self.new) }
@@ -24,7 +24,7 @@ impl Strand {
         Ok(Led::On)
     }
 
-    /// An operand is a local's new value.
+    /// Pops an operand into a local.
     pub(crate) fn write_local(&mut self, instr: Instr, next: usize) -> Led
         requires there { index instr.a < length self.old.current.locals }
         requires room { 0 < length self.old.current.operands }

@@ -11,7 +11,7 @@ use crate::operators::{one, two};
 use cw_base::OutOfMemory;
 use cw_code::{Instr, Operator};
 
-/// The place, the local, the cell or the function that an operand names.
+/// The number of the place, local, cell or function that the operand `a` names.
 pub fn index(a: i64) -> usize
     ensures { result ≡ index a }
 {
@@ -24,7 +24,7 @@ pub fn index(a: i64) -> usize
 impl Strand {
     ghost use Rattle.cw_strand.specs.Acting.{TakesEffect};
 
-    /// One operand more.
+    /// Pushes the instruction's number as an operand.
     pub(crate) fn push(&mut self, instr: Instr, next: usize) -> Result<Led, OutOfMemory>
         ensures { (code : Code) → IfOk result (λ l. TakesEffect code push instr next self.old l self.new) }
     {
@@ -33,7 +33,7 @@ impl Strand {
         Ok(Led::On)
     }
 
-    /// One operand less.
+    /// Pops an operand.
     pub(crate) fn drop_top(&mut self, next: usize) -> Led
         requires { 0 < length self.old.current.operands }
         ensures { (code : Code) (i : Instr) → TakesEffect code drop_top i next self.old result self.new }
@@ -43,7 +43,7 @@ impl Strand {
         Led::On
     }
 
-    /// An operator's result takes the place of its one operand.
+    /// Replaces an operand by the result of a unary operator.
     pub(crate) fn lift(&mut self, operator: Operator, next: usize) -> Result<Led, OutOfMemory>
         requires { 0 < length self.old.current.operands }
         ensures { (code : Code) (i : Instr) → IfOk result (λ l. TakesEffect code (lift operator) i next self.old l self.new) }
@@ -64,7 +64,7 @@ impl Strand {
         }
     }
 
-    /// An operator's result takes the place of its two operands.
+    /// Replaces two operands by the result of a binary operator.
     pub(crate) fn join(&mut self, operator: Operator, next: usize) -> Result<Led, OutOfMemory>
         requires { 1 < length self.old.current.operands }
         ensures { (code : Code) (i : Instr) → IfOk result (λ l. TakesEffect code (join operator) i next self.old l self.new) }
@@ -86,7 +86,7 @@ impl Strand {
         }
     }
 
-    /// Goes on elsewhere.
+    /// Jumps to the target.
     pub(crate) fn jump(&mut self, instr: Instr) -> Led
         ensures { (code : Code) (p : ℕ) → TakesEffect code jump instr p self.old result self.new }
     {
@@ -94,7 +94,7 @@ impl Strand {
         Led::On
     }
 
-    /// Goes on elsewhere where the newest operand is 0.
+    /// Pops an operand, and jumps to the target if it is 0.
     pub(crate) fn jump_zero(&mut self, instr: Instr, next: usize) -> Led
         requires { 0 < length self.old.current.operands }
         ensures { (code : Code) → TakesEffect code jump_zero instr next self.old result self.new }

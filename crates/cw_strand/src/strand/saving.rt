@@ -5,12 +5,12 @@ use super::Strand;
 use cw_base::{OutOfMemory, Seq, Stack};
 use std::marker::Model;
 
-/// What is kept of the begin of a block: what a strand needs to stand there again, and no more.
+/// What is kept of the begin of a block: what a strand needs to be there again, and no more.
 #[derive(Drop)]
 pub struct Saved {
     place: usize,
     locals: Vec<i64>,
-    /// How many functions wait, and how many scopes are open around the block. They do not change while it lasts.
+    /// How many functions wait, and how many scopes are open around the block. Neither changes while the block lasts.
     callers: usize,
     scopes: usize,
     fuel: u64,
@@ -35,7 +35,7 @@ impl Model for Saved {
 }
 
 impl Strand {
-    /// Keeps where it stands, at the begin of a block that was just wanted. Costs what the one function that stands there costs.
+    /// Keeps the state at the begin of a block that was just wanted. Costs what the one current function costs.
     pub fn save(&self) -> Result<Saved, OutOfMemory>
         ensures { IfOk result (λ s. s ≡ kept_of self.now) }
     {
@@ -50,7 +50,8 @@ impl Strand {
         })
     }
 
-    /// Goes back to the begin of a block inside which it stands: to just the state of that begin, whose want is not answered. Takes no memory.
+    /// Goes back to the begin of a block that the strand is inside: to exactly the state of that begin, whose want is
+    /// not answered. Takes no memory.
     pub fn back(&mut self, saved: &Saved)
         requires { MayGoBack saved.now self.old }
         ensures { (m : MayGoBack saved.now self.old) → self.new ≡ m.begin.state }
@@ -61,7 +62,7 @@ impl Strand {
         self.stand_again(saved);
     }
 
-    /// The function that waits nearest stands in place of the current one.
+    /// Replaces the current function by the nearest one that waits.
     fn leave(&mut self)
         requires { 0 < length self.old.callers }
         ensures functions { self.old.callers ≡ self.new.current ∷ self.new.callers }
@@ -75,7 +76,7 @@ impl Strand {
         self.locals = frame.locals;
     }
 
-    /// The function that began the block stands as it did there, with nothing that was spent and counted since.
+    /// Puts the function that began the block back to the begin, and takes back what was spent and counted since.
     fn stand_again(&mut self, saved: &Saved)
         requires locals { length self.old.current.locals ≡ length saved.now.locals }
         requires scopes { saved.now.scopes < length self.old.scopes }

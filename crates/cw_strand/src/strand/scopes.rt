@@ -15,7 +15,7 @@ impl Strand {
     ghost use Rattle.cw_strand.specs.Acting.{TakesEffect};
     ghost use Rattle.cw_strand.specs.Standing.{NoneOver};
 
-    /// A block begins, with a scope.
+    /// Begins a block and opens its scope.
     pub(crate) fn begin(&mut self, next: usize) -> Result<Led, OutOfMemory>
         ensures { (code : Code) (i : Instr) → IfOk result (λ l. TakesEffect code begin i next self.old l self.new) }
     {
@@ -24,7 +24,7 @@ impl Strand {
         Ok(self.count(Want::Begin))
     }
 
-    /// A block ends, and its scope.
+    /// Ends a block and closes its scope.
     pub(crate) fn end(&mut self, next: usize) -> Led
         ensures { (code : Code) (i : Instr) → TakesEffect code end i next self.old result self.new }
     {
@@ -33,7 +33,7 @@ impl Strand {
         Led::Wants(Want::End)
     }
 
-    /// A block is given up.
+    /// Gives up a block.
     pub(crate) fn cancel(&mut self, next: usize) -> Led
         ensures { (code : Code) (i : Instr) → TakesEffect code cancel i next self.old result self.new }
     {
@@ -41,7 +41,8 @@ impl Strand {
         self.count(Want::Cancel)
     }
 
-    /// A strand is to begin behind the fork; this one goes on at the fork's target, and the innermost scope has one fork more to wait for.
+    /// Forks. The left strand is to begin at `next`. This one goes on at the fork's target, and the innermost scope
+    /// waits for one fork more.
     pub(crate) fn spawn(&mut self, instr: Instr, next: usize) -> Result<Led, OutOfMemory>
         requires { NoneOver self.old.size self.old.scopes }
         ensures { (code : Code) → IfOk result (λ l. TakesEffect code fork instr next self.old l self.new) }
@@ -57,7 +58,7 @@ impl Strand {
         Ok(Led::Wants(Want::Fork))
     }
 
-    /// Ends as the right strand of a fork that the innermost scope has to wait for, or goes on.
+    /// Ends as the right strand of a fork that the innermost scope waits for. Goes on if it waits for none.
     pub(crate) fn wait(&mut self, next: usize) -> Result<Led, OutOfMemory>
         ensures { (code : Code) (i : Instr) → IfOk result (λ l. TakesEffect code sync i next self.old l self.new) }
     {
@@ -74,7 +75,7 @@ impl Strand {
         }
     }
 
-    /// Comes to its end. With no scope open but its own it keeps no locals and no scope, and no room: of a strand that has ended only what it
+    /// Ends the strand. If only its own scope is open, it frees its locals and scopes, since only what an ended strand
     /// spent and counted is read.
     pub(crate) fn finish(&mut self) -> Led
         ensures { (code : Code) (i : Instr) (p : ℕ) → TakesEffect code done i p self.old result self.new }
