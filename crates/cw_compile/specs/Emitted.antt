@@ -5,7 +5,7 @@ use Rattle.cw_text.specs.Syntax.{Terms, Statement, declare, choose, repeat, atom
 use Rattle.cw_strand.specs.Compilation.{Slots, slots_after, terms_code, statement_code, block_code, visible_after}
 use Rattle.cw_compile.specs.declared.emitter.Emitter.{Emitter}
 
--- how many locals are visible at most right behind a `let`, where so many are visible before
+-- the most locals that are visible directly behind a `let`, if n are visible before
 abbrev mutual
   pub peak_in : ℕ → Statement → ℕ
   peak_in n (declare w e) = n + 1
@@ -22,11 +22,11 @@ abbrev mutual
 abbrev pub with_code : Emitter → List Instr → Emitter
 with_code e is = record e { code = e.code ++ is }
 
--- the arguments of a call
+-- adds the code of the arguments of a call
 abbrev pub with_terms : Emitter → Terms → Emitter
 with_terms e es = with_code e (terms_code e.elements e.functions e.slots es)
 
--- a statement, where the innermost atomic block of its function has its `end` at the place `ending`
+-- adds a statement; the innermost atomic block of its function has its `end` at the place `ending`
 abbrev pub with_statement_code : Emitter → (ending : ℕ) → Statement → Emitter
 with_statement_code e q s = record e {
   code = e.code ++ statement_code e.elements e.functions e.slots (length e.code) q s;
@@ -41,7 +41,7 @@ with_block e q b = record e {
   most = max e.most (peak (length e.slots) b);
 }
 
--- Where the start of a block was emitted, the rest of it still adds what the block adds.
+-- `rest` is left of the block after its start was emitted: it still adds what the block adds.
 pub record IsLeft (ending : ℕ) (body : Block) (start : Emitter) (rest : Block) (e : Emitter) : Type 0 where
   pub elements : e.elements ≡ start.elements
   pub functions : e.functions ≡ start.functions

@@ -15,7 +15,7 @@ use cw_code::{Code, CodeRefusal, Program, verify};
 use cw_text::{Ast, Item};
 use std::alloc::Global;
 
-/// The code of the functions among the items, which declare these cells, and which these functions are.
+/// Returns the code of the functions among the items, given the declared cells and the numbers of the functions.
 fn code_of<'a>(
     alloc: Global,
     declared: &'a Declared,
@@ -43,9 +43,9 @@ fn code_of<'a>(
     })
 }
 
-/// The compiled program, or the first naming fault with the line of its name. Items are looked at first, in the order of the text, then
-/// the functions, each from its first token, and last whether there is a `main`. A tree whose code would have 2^32 or more instructions is
-/// refused as if memory ran out: no text that can be read is one.
+/// Returns the compiled program, or the first naming fault with the line of its name. Items come first, in the order of
+/// the text, then the functions, each from its first token, and last whether there is a `main`. A tree whose code would
+/// have 2^32 or more instructions is refused as out of memory. No text that can be read has such a tree.
 pub fn compile(alloc: Global, ast: &Ast) -> Result<Program, NameRefusal>
     ensures named { Finds result (naming_fault (tree_of ast.now)) }
     ensures compiled { IfOk result (IsProgramOf (tree_of ast.now)) }

@@ -8,14 +8,14 @@ use cw_code::CellInfo;
 use std::alloc::Global;
 use std::marker::Model;
 
-/// The elements of a cell: the number of the first one, and how many they are, or 0 for a plain cell.
+/// The elements of a cell: the number of the first one, and how many there are, or 0 for a plain cell.
 #[derive(Clone, Copy)]
 pub(crate) struct Extent {
     pub(crate) base: u32,
     pub(crate) len: u32,
 }
 
-/// Cells, with their elements by their names, of which the first counts. Contracts see the cells.
+/// Cells, and their elements by name. If two cells have one name, the first counts. Contracts see the cells.
 #[derive(Drop)]
 pub(crate) struct Elements<'a> {
     cells: &'a [CellInfo],
@@ -52,14 +52,14 @@ impl<'a> Elements<'a> {
         Ok(Elements { cells, extents })
     }
 
-    /// The elements of the cell of a name.
+    /// The elements of the cell called `name`.
     pub(crate) fn find(&self, name: &str) -> Option<Extent>
         ensures { result ≡ option_map extent_of (cell_of self.now name.now) }
     {
         self.extents.get(name)
     }
 
-    /// The number of the element that a name stands for.
+    /// The number of the first element of the cell called `name`.
     pub(crate) fn get(&self, name: &str) -> Option<u32>
         ensures { result ≡ element_of self.now name.now }
     {

@@ -17,8 +17,8 @@ use cw_code::{Func, Instr};
 use cw_text::{Expr, Stmt, Word};
 use std::alloc::Global;
 
-/// The code that was emitted so far, the locals that are visible, how many were visible at once at most in this function, the cells, and the
-/// functions.
+/// The code that was emitted so far, the visible locals, the most that were visible at once in this function, the
+/// cells, and the functions.
 #[derive(Drop)]
 pub(crate) struct Emitter<'a> {
     pub(crate) elements: Elements<'a>,
@@ -31,7 +31,7 @@ pub(crate) struct Emitter<'a> {
 impl<'a> Emitter<'a> {
     ghost use Rattle.cw_compile.specs.Emitted.{with_code, with_statement_code, with_block};
 
-    /// What begins with no code, over these cells and functions.
+    /// Returns an emitter without code, over these cells and functions.
     pub(crate) fn new(
         alloc: Global,
         elements: Elements<'a>,
@@ -48,14 +48,14 @@ impl<'a> Emitter<'a> {
         }
     }
 
-    /// One instruction more.
+    /// Emits an instruction.
     pub(crate) fn emit(&mut self, instr: Instr) -> Result<(), OutOfMemory>
         ensures { OnOk result (self.new ≡ with_code self.old (instr ∷ [])) }
     {
         self.code.push(instr)
     }
 
-    /// The instruction that reads what a name stands for.
+    /// The instruction that reads the local or cell called `name`.
     fn read(&self, name: &Text) -> Instr
         ensures { result ≡ reads self.now.elements self.now.functions (slot_of self.now.slots name.now) name.now }
     {
@@ -65,7 +65,7 @@ impl<'a> Emitter<'a> {
         }
     }
 
-    /// The instruction that writes what a name stands for.
+    /// The instruction that writes the local or cell called `name`.
     fn write(&self, name: &Text) -> Instr
         ensures { result ≡ writes self.now.elements self.now.functions (slot_of self.now.slots name.now) name.now }
     {
@@ -75,7 +75,7 @@ impl<'a> Emitter<'a> {
         }
     }
 
-    /// The instruction that reads an element of the array of a name.
+    /// The instruction that reads an element of the array called `name`.
     fn read_at(&self, name: &Text) -> Instr
         ensures { result ≡ loads_at self.now.elements self.now.functions (cell_of self.now.elements name.now) }
     {
@@ -85,7 +85,7 @@ impl<'a> Emitter<'a> {
         }
     }
 
-    /// The instruction that writes an element of the array of a name.
+    /// The instruction that writes an element of the array called `name`.
     fn write_at(&self, name: &Text) -> Instr
         ensures { result ≡ stores_at self.now.elements self.now.functions (cell_of self.now.elements name.now) }
     {
@@ -95,14 +95,14 @@ impl<'a> Emitter<'a> {
         }
     }
 
-    /// The instruction that calls the function of a name.
+    /// The instruction that calls the function called `name`.
     fn call_of(&self, name: &Text) -> Instr
         ensures { result ≡ calls self.now.elements self.now.functions name.now }
     {
         call(self.functions.number(name.as_str()))
     }
 
-    /// The code of an expression.
+    /// Emits an expression.
     #[cycle(expression)]
     fn term(&mut self, term: &Expr) -> Result<(), OutOfMemory>
         ensures { OnOk result (self.new ≡ with_code self.old (term_code self.old.elements self.old.functions self.old.slots (term_of term.now))) }
@@ -130,7 +130,7 @@ impl<'a> Emitter<'a> {
         }
     }
 
-    /// The code of a call: its arguments from left to right, and then the call itself.
+    /// Emits a call: its arguments from left to right, and then the call itself.
     #[cycle(expression)]
     fn call(&mut self, name: &Word, args: &[Expr]) -> Result<(), OutOfMemory>
         ensures { OnOk result (self.new ≡ with_code self.old (terms_code self.old.elements self.old.functions self.old.slots (terms_of args.now)
@@ -142,7 +142,7 @@ impl<'a> Emitter<'a> {
         self.emit(self.call_of(&name.name))
     }
 
-    /// The code of a `let`, behind its tick.
+    /// Emits a `let`, behind its tick.
     fn declare(&mut self, name: &'a Word, value: &Expr) -> Result<(), OutOfMemory>
         ensures { OnOk result (self.new ≡ record self.old {
           code = self.old.code ++ (term_code self.old.elements self.old.functions self.old.slots (term_of value.now) ++ set (length self.old.slots) ∷ []);
@@ -156,7 +156,7 @@ impl<'a> Emitter<'a> {
         self.emit(set(number))
     }
 
-    /// The code of an assignment, behind its tick.
+    /// Emits an assignment, behind its tick.
     fn assign(&mut self, name: &Word, value: &Expr) -> Result<(), OutOfMemory>
         ensures { OnOk result (self.new ≡ with_code self.old (term_code self.old.elements self.old.functions self.old.slots (term_of value.now)
             ++ writes self.old.elements self.old.functions (slot_of self.old.slots name.now.name) name.now.name ∷ [])) }
@@ -165,7 +165,7 @@ impl<'a> Emitter<'a> {
         self.emit(self.write(&name.name))
     }
 
-    /// The code of an assignment to an element, behind its tick: the index comes before the value.
+    /// Emits an assignment to an element, behind its tick: the index comes before the value.
     fn assign_at(&mut self, name: &Word, at: &Expr, value: &Expr) -> Result<(), OutOfMemory>
         ensures { OnOk result (self.new ≡ with_code self.old (term_code self.old.elements self.old.functions self.old.slots (term_of at.now)
             ++ (term_code self.old.elements self.old.functions self.old.slots (term_of value.now)
@@ -176,7 +176,7 @@ impl<'a> Emitter<'a> {
         self.emit(self.write_at(&name.name))
     }
 
-    /// The code of a call whose value is dropped, behind its tick.
+    /// Emits a call whose value is dropped, behind its tick.
     fn run(&mut self, name: &Word, args: &[Expr]) -> Result<(), OutOfMemory>
         ensures { OnOk result (self.new ≡ with_code self.old (terms_code self.old.elements self.old.functions self.old.slots (terms_of args.now)
             ++ (calls self.old.elements self.old.functions name.now.name ∷ discard ∷ []))) }
@@ -185,7 +185,7 @@ impl<'a> Emitter<'a> {
         self.emit(plain(DISCARD))
     }
 
-    /// The code of an output, behind its tick.
+    /// Emits an output, behind its tick.
     fn show(&mut self, value: &Expr) -> Result<(), OutOfMemory>
         ensures { OnOk result (self.new ≡ with_code self.old (term_code self.old.elements self.old.functions self.old.slots (term_of value.now) ++ show ∷ [])) }
     {
@@ -193,7 +193,7 @@ impl<'a> Emitter<'a> {
         self.emit(plain(SHOW))
     }
 
-    /// The code of a `return`, behind its tick: what the function spawned is waited for behind the value.
+    /// Emits a `return`, behind its tick: behind the value it waits for what the function spawned.
     fn return_value(&mut self, value: &Expr) -> Result<(), OutOfMemory>
         ensures { OnOk result (self.new ≡ with_code self.old (term_code self.old.elements self.old.functions self.old.slots (term_of value.now)
             ++ (wait ∷ ret ∷ []))) }
@@ -203,7 +203,7 @@ impl<'a> Emitter<'a> {
         self.emit(plain(RET))
     }
 
-    /// The code of a test, and the place of the jump behind it, which has no target yet.
+    /// Emits a test and the jump behind it, which has no target yet. Returns the place of the jump.
     fn test(&mut self, test: &Expr) -> Result<u32, OutOfMemory>
         ensures code { OnOk result (self.new ≡ with_code self.old (term_code self.old.elements self.old.functions self.old.slots (term_of test.now) ++ jump_zero 0 ∷ [])) }
         ensures last { IfOk result (λ place. place + 1 ≡ length self.new.code) }
@@ -214,7 +214,8 @@ impl<'a> Emitter<'a> {
         Ok(place)
     }
 
-    /// A jump behind the first block of a choice, and its place. It has no target yet, and that of the test leads behind it.
+    /// Emits the jump behind the first block of a choice, which has no target yet, and returns its place. The jump at
+    /// `skip` gets the place behind it as target.
     fn pass(&mut self, skip: u32) -> Result<u32, OutOfMemory>
         requires { skip < length self.old.code }
         ensures code { OnOk result (self.new ≡ record self.old {
@@ -228,7 +229,7 @@ impl<'a> Emitter<'a> {
         Ok(place)
     }
 
-    /// The code of a `cancel`, behind its tick: what the block spawned is waited for, and once its cells are written back it ends.
+    /// Emits a `cancel`, behind its tick: it waits for what the block spawned, and ends the block after its cells are written back.
     fn cancel(&mut self, ending: u32) -> Result<(), OutOfMemory>
         ensures { OnOk result (self.new ≡ with_code self.old (wait ∷ cancel ∷ jump ending ∷ [])) }
     {
@@ -237,8 +238,8 @@ impl<'a> Emitter<'a> {
         self.emit(jump(ending))
     }
 
-    /// The code of a statement, where the innermost atomic block of its function has its end at the place `ending`. What it declares is
-    /// visible afterwards.
+    /// Emits a statement. The innermost atomic block of its function has its end at the place `ending`. What the
+    /// statement declares is visible afterwards.
     #[cycle(walk)]
     fn statement(&mut self, statement: &'a Stmt, ending: u32) -> Result<(), OutOfMemory>
         ensures { OnOk result (self.new ≡ with_statement_code self.old ending (statement_of statement.now)) }
@@ -289,7 +290,7 @@ impl<'a> Emitter<'a> {
         }
     }
 
-    /// The code of the statements of a block. What they declare is visible to the block's end.
+    /// Emits the statements of a block. What they declare is visible to the block's end.
     #[cycle(walk)]
     fn block(&mut self, body: &'a [Stmt], ending: u32) -> Result<(), OutOfMemory>
         ensures { OnOk result (self.new ≡ with_block self.old ending (block_of body.now)) }
@@ -301,7 +302,7 @@ impl<'a> Emitter<'a> {
         self.slots.forget(outer)
     }
 
-    /// Parameters are visible from now on.
+    /// Makes parameters visible from now on.
     fn params(&mut self, params: &'a [Word]) -> Result<(), OutOfMemory>
         ensures { OnOk result (self.new ≡ record self.old { slots = slots_with_params params.now self.old.slots }) }
     {
@@ -311,7 +312,7 @@ impl<'a> Emitter<'a> {
         Ok(())
     }
 
-    /// The code of a function.
+    /// Emits a function.
     pub(crate) fn function(
         &mut self,
         params: &'a [Word],

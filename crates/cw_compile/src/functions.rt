@@ -8,8 +8,8 @@ use cw_text::Item;
 use std::alloc::Global;
 use std::marker::Model;
 
-/// The functions among items, each with its number by its name, of which the first counts. Contracts see their names, in the order of the
-/// text.
+/// The functions among items, each with its number by its name. If two functions have one name, the first counts.
+/// Contracts see their names, in the order of the text.
 #[derive(Drop)]
 pub(crate) struct Functions<'a> {
     items: &'a [Item],
@@ -51,7 +51,7 @@ impl<'a> Functions<'a> {
         })
     }
 
-    /// The number of the function of a name, or the number behind the last function where there is none.
+    /// The number of the function called `name`, or the number behind the last function if there is none.
     pub(crate) fn number(&self, name: &str) -> u32
         ensures { result ≡ number_from 0 name.now self.now }
     {

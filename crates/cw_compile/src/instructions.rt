@@ -7,7 +7,7 @@ ghost use Rattle.cw_strand.specs.Compilation as code;
 use cw_code::{Instr, Operator};
 use cw_text::Op;
 
-// the numbers of the instructions that no operator has
+// the numbers of the instructions that are no operators
 const PUSH: u8 = 1;
 
 const LOCAL: u8 = 2;
@@ -100,7 +100,7 @@ pub(crate) fn store(element: u32) -> Instr
     with_a(STORE, element)
 }
 
-/// Loads of so many elements from this one on that of an index.
+/// Loads, from the `len` elements from number `element` on, the one that an index selects.
 pub(crate) fn load_at(element: u32, len: u32) -> Instr
     ensures { result ≡ code.load_at element len }
 {
@@ -111,7 +111,7 @@ pub(crate) fn load_at(element: u32, len: u32) -> Instr
     }
 }
 
-/// Stores in so many elements from this one on that of an index.
+/// Stores to the one that an index selects of the `len` elements from number `element` on.
 pub(crate) fn store_at(element: u32, len: u32) -> Instr
     ensures { result ≡ code.store_at element len }
 {
@@ -128,14 +128,14 @@ pub(crate) fn jump(place: u32) -> Instr
     with_a(JUMP, place)
 }
 
-/// Goes to a place where the operand is 0.
+/// Jumps to `place` if the operand is 0.
 pub(crate) fn jump_zero(place: u32) -> Instr
     ensures { result ≡ code.jump_zero place }
 {
     with_a(JUMP_ZERO, place)
 }
 
-/// Calls the function of this number.
+/// Calls the function with the number `function`.
 pub(crate) fn call(function: u32) -> Instr
     ensures { result ≡ code.call function }
 {
@@ -169,14 +169,14 @@ fn number_of(operator: Operator) -> u8
     }
 }
 
-/// The arithmetic of an operator.
+/// The instruction of an operator.
 pub(crate) fn arithmetic(operator: Operator) -> Instr
     ensures { result ≡ code.plain (code.operator_number operator) }
 {
     plain(number_of(operator))
 }
 
-/// What an operator does that has one operand. A tree may name one of two operands there, which then changes nothing.
+/// The unary operator that `op` is. A tree may name a binary one here, which then changes nothing.
 pub(crate) fn lifted(op: Op) -> Option<Operator>
     ensures { result ≡ lifted op }
 {
@@ -188,7 +188,7 @@ pub(crate) fn lifted(op: Op) -> Option<Operator>
     }
 }
 
-/// What an operator does that has two operands. A tree may name one of one operand there, which then gives the first.
+/// The binary operator that `op` is. A tree may name a unary one here, which then gives the first operand.
 fn joining(op: Op) -> Option<Operator>
     ensures { result ≡ joining op }
 {
@@ -208,7 +208,7 @@ fn joining(op: Op) -> Option<Operator>
     }
 }
 
-/// The instruction of an operator that has two operands.
+/// The instruction of a binary operator.
 pub(crate) fn join(op: Op) -> Instr
     ensures { result ≡ code.join_code (joining op) }
 {

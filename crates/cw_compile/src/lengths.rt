@@ -8,7 +8,7 @@ use crate::instructions::lifted;
 use cw_base::OutOfMemory;
 use cw_text::{Expr, Stmt};
 
-/// So many instructions more, where there are fewer than 2^32.
+/// Returns `length + more` if it is less than 2^32, otherwise out of memory.
 fn sum(length: u32, more: u32) -> Result<u32, OutOfMemory>
     ensures { IfOk result (λ all. all ≡ length + more) }
 {
@@ -76,7 +76,7 @@ fn of_block(body: &[Stmt]) -> Result<u32, OutOfMemory>
     Ok(length)
 }
 
-/// The place of the `end` of an atomic block whose first statement stands at this place: between them stands its `wait`.
+/// The place of the `end` of an atomic block whose first statement is at `place`. Between its statements and the `end` is its `wait`.
 pub(crate) fn place_behind(place: u32, body: &[Stmt]) -> Result<u32, OutOfMemory>
     ensures { IfOk result (λ last. last ≡ place + block_length (block_of body.now) + 1) }
 {

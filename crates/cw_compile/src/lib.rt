@@ -1,8 +1,8 @@
-//! Programs from syntax trees: the naming rules, and the compilation.
-//! Stands on `cw_base`, `cw_text`, `cw_code` and `cw_strand`.
-//! Contracts cite `specs/NamingRules/Scopes.antt` (what an answer says of a naming fault) and, of `cw_strand`, what a compiled program is.
-//! Private ones cite `specs/Emitted.antt` (what was emitted so far), the rest of `specs/NamingRules` (what items declare, what is visible),
-//! and `specs/Named.antt` with `specs/Numbered.antt` (names in memory).
+//! Programs from syntax trees: the naming rules, and the compilation. Use `compile` on what the reader of `cw_text` returned.
+//! Contracts cite `specs/NamingRules/Scopes.antt` (what a result says of a naming fault) and, from `cw_strand`, what a
+//! compiled program is. Private ones cite `specs/Emitted.antt` (what was emitted so far), the rest of
+//! `specs/NamingRules` (what items declare, what is visible), and `specs/Named.antt` with `specs/Numbered.antt` (names
+//! in memory).
 #![tactic(auto)]
 
 mod compiling;

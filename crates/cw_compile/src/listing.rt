@@ -5,7 +5,7 @@ use cw_code::Instr;
 use std::alloc::Global;
 use std::marker::Model;
 
-/// Instructions, one behind the other. They are fewer than 2^32: to be one more counts as want of memory.
+/// Instructions, one behind the other. There are fewer than 2^32: one more counts as out of memory.
 #[derive(Drop)]
 pub(crate) struct Listing {
     instrs: Vec<Instr>,
@@ -38,7 +38,7 @@ impl Listing {
         self.instrs.len() as u32
     }
 
-    /// One instruction more.
+    /// Adds an instruction.
     pub(crate) fn push(&mut self, instr: Instr) -> Result<(), OutOfMemory>
         ensures { OnOk result (self.new ≡ self.old ++ instr ∷ []) }
     {
@@ -49,7 +49,7 @@ impl Listing {
         Ok(())
     }
 
-    /// Another instruction at a place.
+    /// Replaces the instruction at `place`.
     pub(crate) fn put(&mut self, place: u32, instr: Instr)
         requires { place < length self.old }
         ensures { self.new ≡ slice_set self.old place instr }

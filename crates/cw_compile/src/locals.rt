@@ -6,14 +6,14 @@ use cw_base::{OutOfMemory, Stack};
 use std::alloc::Global;
 use std::marker::Model;
 
-/// A name that was declared, and what it stood for before.
+/// A name that was declared, and what it meant before.
 #[derive(Clone, Copy)]
 pub struct Hidden<'a, V> {
     pub name: &'a str,
     pub value: Option<V>,
 }
 
-/// Names that were declared one after another, each with what it stands for. Contracts see their list, the newest first.
+/// Names that were declared one after another, each with what it means. Contracts see their list, the newest first.
 #[derive(Drop)]
 pub struct Locals<'a, V> {
     values: Names<'a, V>,
@@ -41,21 +41,21 @@ impl<'a, V: Copy> Locals<'a, V> {
         }
     }
 
-    /// How many there are.
+    /// How many names are declared.
     pub fn count(&self) -> usize
         ensures { result ≡ length self.now }
     {
         self.declared.len()
     }
 
-    /// What a name stands for: the newest that has it counts.
+    /// What `name` means now, by its newest declaration.
     pub fn get(&self, name: &str) -> Option<V>
         ensures { result ≡ named self.now name.now }
     {
         self.values.get(name)
     }
 
-    /// One more.
+    /// Declares `name`.
     pub fn bind(&mut self, name: &'a str, value: V) -> Result<(), OutOfMemory>
         ensures ok { OnOk result (self.new ≡ (name.now, value) ∷ self.old) }
         ensures err { OnErr result (self.new ≡ self.old) }
@@ -71,7 +71,7 @@ impl<'a, V: Copy> Locals<'a, V> {
         Ok(())
     }
 
-    /// Only the oldest stay, so many of them.
+    /// Forgets all but the oldest `count` names.
     pub fn forget(&mut self, count: usize) -> Result<(), OutOfMemory>
         ensures ok { OnOk result (self.new ≡ drop (length self.old - count) self.old) }
         ensures fewer { (gone : ℕ) × (self.new ≡ drop gone self.old) }
@@ -82,7 +82,7 @@ impl<'a, V: Copy> Locals<'a, V> {
         Ok(())
     }
 
-    /// The newest is gone, and its name stands for what it stood for before.
+    /// Forgets the newest name, which means again what it meant before.
     fn forget_newest(&mut self) -> Result<(), OutOfMemory>
         ensures ok { OnOk result (self.new ≡ drop 1 self.old) }
         ensures err { OnErr result (self.new ≡ self.old) }

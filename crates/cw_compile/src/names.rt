@@ -5,7 +5,7 @@ use cw_base::OutOfMemory;
 use std::alloc::Global;
 use std::collections::BTreeMap;
 
-/// What names stand for, each name once.
+/// What names mean, each name once.
 #[derive(Drop)]
 pub struct Names<'a, V> {
     map: BTreeMap<&'a str, V>,
@@ -22,14 +22,14 @@ impl<'a, V: Copy> Names<'a, V> {
         }
     }
 
-    /// What a name stands for.
+    /// What `name` means.
     pub fn get(&self, name: &str) -> Option<V>
         ensures { result ≡ value_named self.now name.now }
     {
         self.map.get(name).copied()
     }
 
-    /// The name stands for this from now on, or for nothing.
+    /// Makes `name` mean `value` from now on, or nothing.
     pub fn set(&mut self, name: &'a str, value: Option<V>) -> Result<(), OutOfMemory>
         ensures ok { OnOk result ((n : List ℕ) → value_named self.new n
             ≡ (if bytes_eq n name.now then value else value_named self.old n)) }

@@ -6,8 +6,8 @@ use cw_base::OutOfMemory;
 use std::alloc::Global;
 use std::marker::Model;
 
-/// The locals that are visible, each with its number: how many were visible where it was declared. They are fewer than 2^32: to be one
-/// more counts as want of memory. Contracts see their names, the newest first.
+/// The visible locals. The number of each is how many were visible where it was declared. There are fewer than 2^32:
+/// one more counts as out of memory. Contracts see their names, the newest first.
 #[derive(Drop)]
 pub(crate) struct Slots<'a> {
     numbers: Locals<'a, u32>,
@@ -34,21 +34,21 @@ impl<'a> Slots<'a> {
         }
     }
 
-    /// The number of the local that a name stands for.
+    /// The number of the local called `name`.
     pub(crate) fn find(&self, name: &str) -> Option<u32>
         ensures { result ≡ slot_of self.now name.now }
     {
         self.numbers.get(name)
     }
 
-    /// How many there are.
+    /// How many locals are visible.
     pub(crate) fn count(&self) -> u32
         ensures { result ≡ length self.now }
     {
         self.numbers.count() as u32
     }
 
-    /// One more, and its number.
+    /// Adds a local and returns its number.
     pub(crate) fn add(&mut self, name: &'a str) -> Result<u32, OutOfMemory>
         ensures names { OnOk result (self.new ≡ name.now ∷ self.old) }
         ensures number { IfOk result (λ n. n ≡ length self.old) }
@@ -61,7 +61,7 @@ impl<'a> Slots<'a> {
         Ok(number)
     }
 
-    /// Only the oldest stay, so many of them.
+    /// Forgets all but the oldest `count` locals.
     pub(crate) fn forget(&mut self, count: u32) -> Result<(), OutOfMemory>
         ensures { OnOk result (self.new ≡ drop (length self.old - count) self.old) }
     {

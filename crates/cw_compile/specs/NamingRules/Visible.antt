@@ -9,6 +9,6 @@ use Rattle.cw_compile.specs.NamingRules.Scopes.{thing_of}
 abbrev pub visible_in : Visible → Scope
 visible_in v = map (λ x. (x.0, thing_of x.1)) v.locals ++ v.items.now
 
--- What was visible still is, beneath some locals more.
+-- What was visible still is, perhaps with more locals on it.
 abbrev pub StaysVisible : Visible → Visible → Type 0
 StaysVisible old new = (inner : List (List ℕ × Thing)) × (new ≡ record old { locals = inner ++ old.locals })

@@ -47,7 +47,7 @@ fn indexed(visible: &Visible<'_>, word: &Word) -> Result<(), NameFault>
     })
 }
 
-/// The fault of a name that is called with so many arguments.
+/// The fault of a name that is called with `args` arguments.
 fn called(visible: &Visible<'_>, word: &Word, args: usize) -> Result<(), NameFault>
     ensures { result_err result ≡ fault_of_call (find word.now.name (visible_in visible.now)) args word.now.line }
 {
@@ -62,7 +62,7 @@ fn called(visible: &Visible<'_>, word: &Word, args: usize) -> Result<(), NameFau
     })
 }
 
-/// The fault of a `return` with this around it.
+/// The fault of a `return`, given the innermost block around it.
 fn returned_from(around: Around, line: u32) -> Result<(), NameFault>
     ensures { result_err result ≡ returned_from around line }
 {
@@ -75,7 +75,7 @@ fn returned_from(around: Around, line: u32) -> Result<(), NameFault>
     }
 }
 
-/// The fault of a `cancel` with this around it.
+/// The fault of a `cancel`, given the innermost block around it.
 fn cancelled_in(around: Around, line: u32) -> Result<(), NameFault>
     ensures { result_err result ≡ cancelled_in around line }
 {
@@ -123,7 +123,7 @@ fn in_call(visible: &Visible<'_>, name: &Word, args: &[Expr]) -> Result<(), Name
     Ok(())
 }
 
-/// The first fault in a statement with this around it. What the statement declares is visible afterwards.
+/// Returns the first fault in a statement, given the innermost block around it. What the statement declares is visible afterwards.
 #[cycle(walk)]
 fn in_statement<'a>(
     visible: &mut Visible<'a>,
@@ -172,7 +172,8 @@ fn in_statement<'a>(
     Ok(())
 }
 
-/// The first fault in the statements of a block with this around them. What they declare is visible to the block's end.
+/// Returns the first fault in the statements of a block, given the innermost block around them. What they declare is
+/// visible to the block's end.
 #[cycle(walk)]
 fn in_block<'a>(
     visible: &mut Visible<'a>,
@@ -190,7 +191,7 @@ fn in_block<'a>(
     Ok(())
 }
 
-/// The first fault in the parameters of a function, which are visible afterwards.
+/// Returns the first fault in the parameters of a function, which are visible afterwards.
 fn in_params<'a>(visible: &mut Visible<'a>, params: &'a [Word]) -> Result<(), NameRefusal>
     ensures exact { Finds result (in_params (visible_in visible.old) params.now) }
     ensures visible { OnOk result (visible_in visible.new ≡ scope_with_params (visible_in visible.old) params.now) }
@@ -202,7 +203,7 @@ fn in_params<'a>(visible: &mut Visible<'a>, params: &'a [Word]) -> Result<(), Na
     Ok(())
 }
 
-/// The first fault in a function.
+/// Returns the first fault in a function.
 fn in_function<'a>(
     names: &'a Scope,
     alloc: Global,
@@ -216,7 +217,7 @@ fn in_function<'a>(
     in_block(&mut visible, Around::Neither, body)
 }
 
-/// The first fault in the functions among the items, of which these are the names.
+/// Returns the first fault in the functions among the items. `names` are the names of the items.
 fn in_functions<'a>(names: &'a Scope, alloc: Global, items: &'a [Item]) -> Result<(), NameRefusal>
     ensures { Finds result (in_functions names.now (map declaration_of items.now)) }
 {
@@ -258,8 +259,8 @@ fn without_main(items: &[Item]) -> Result<(), NameFault>
     }
 }
 
-/// What the items of a tree declare, or its first naming fault with the line of the name. Items are looked at first, in the
-/// order of the text, then the functions, each from its first token, and last whether there is a `main`.
+/// Returns what the items of a tree declare, or its first naming fault with the line of the name. Items come first, in
+/// the order of the text, then the functions, each from its first token, and last whether there is a `main`.
 pub(crate) fn checked(alloc: Global, items: &[Item]) -> Result<Declared, NameRefusal>
     ensures exact { Finds result (naming_fault (map declaration_of items.now)) }
     ensures declared { IfOk result (IsAllOf (map declaration_of items.now)) }

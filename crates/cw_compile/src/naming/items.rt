@@ -23,7 +23,7 @@ pub(crate) struct Declared {
     ghost few: { elements ≤ 4096 },
 }
 
-/// The fault of a name that is declared, where it stood for something before.
+/// The fault of a name that is declared although it is taken.
 pub(crate) fn declared_new(found: Option<Thing>, line: u32) -> Result<(), NameFault>
     ensures { result_err result ≡ declared_new (option_map thing_of found) line }
 {
@@ -36,7 +36,7 @@ pub(crate) fn declared_new(found: Option<Thing>, line: u32) -> Result<(), NameFa
     }
 }
 
-/// What a cell of this length is.
+/// Whether a cell of length `len` is plain or an array.
 fn cell_thing(len: u64) -> Thing
     ensures { thing_of result ≡ cell_thing len }
 {
@@ -46,7 +46,7 @@ fn cell_thing(len: u64) -> Thing
 impl Declared {
     ghost use Rattle.cw_compile.specs.NamingRules.Items.{Declares, IsAllOf};
 
-    /// What all items declare, or the first fault of a name that they declare.
+    /// Returns what all items declare, or the first fault of a name that they declare.
     pub(crate) fn of_items(alloc: Global, items: &[Item]) -> Result<Declared, NameRefusal>
         ensures exact { Finds result (in_items [] 0 (map declaration_of items.now)) }
         ensures declared { IfOk result (IsAllOf (map declaration_of items.now)) }
@@ -97,7 +97,7 @@ impl Declared {
         Ok(())
     }
 
-    /// The number of elements of one more cell, or the fault that there are too many.
+    /// Returns the number of elements of one more cell, or the fault that there are too many.
     fn size_of(&self, len: u64, line: u32) -> Result<u32, NameFault>
         ensures exact { result_err result ≡ (if nat_lt 4096 (self.now.elements + elements len) then fault NameKind.TooManyCells line else None) }
         ensures size { IfOk result (λ size. size ≡ elements len) }

@@ -7,7 +7,7 @@ use std::alloc::Global;
 use std::collections::BTreeMap;
 use std::marker::Model;
 
-/// What a name stands for.
+/// What a name means.
 #[derive(Clone, Copy)]
 pub(crate) enum Thing {
     Local,
@@ -15,11 +15,11 @@ pub(crate) enum Thing {
     Cell,
     /// A cell with elements.
     Array,
-    /// A function with so many parameters.
+    /// A function with this number of parameters.
     Function(usize),
 }
 
-/// Names, and what each of them stands for.
+/// Names, and what each of them means.
 #[derive(Drop)]
 pub(crate) struct Scope {
     things: BTreeMap<String, Thing>,
@@ -43,14 +43,14 @@ impl Scope {
         }
     }
 
-    /// What a name stands for, if it is known.
+    /// What `name` means, if it is known.
     pub(crate) fn find(&self, name: &Text) -> Option<Thing>
         ensures { option_map thing_of result ≡ find name.now self.now }
     {
         self.things.get(name.as_str()).copied()
     }
 
-    /// Makes a name stand for something from now on.
+    /// Makes `name` mean `thing` from now on.
     pub(crate) fn add(
         &mut self,
         alloc: Global,

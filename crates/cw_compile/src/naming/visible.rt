@@ -17,7 +17,7 @@ impl<'a> Visible<'a> {
     ghost use Rattle.cw_compile.specs.NamingRules.Scopes.{thing_of};
     ghost use Rattle.cw_compile.specs.NamingRules.Visible.{visible_in};
 
-    /// What is visible where a function begins: the items alone.
+    /// Returns what is visible where a function begins: the items alone.
     pub(crate) fn new(alloc: Global, items: &'a Scope) -> Visible<'a>
         ensures { visible_in result ≡ items.now }
     {
@@ -27,7 +27,7 @@ impl<'a> Visible<'a> {
         }
     }
 
-    /// What a name stands for, if it is visible.
+    /// What `name` means, if it is visible.
     pub(crate) fn find(&self, name: &Text) -> Option<Thing>
         ensures { option_map thing_of result ≡ find name.now (visible_in self.now) }
     {
@@ -37,7 +37,7 @@ impl<'a> Visible<'a> {
         }
     }
 
-    /// Makes a name visible as a local from now on.
+    /// Makes `name` visible as a local from now on.
     pub(crate) fn add_local(&mut self, name: &'a Text) -> Result<(), OutOfMemory>
         ensures { OnOk result (self.new ≡ record self.old { locals = (name.now, Thing.Local) ∷ self.old.locals }) }
     {
@@ -51,7 +51,7 @@ impl<'a> Visible<'a> {
         self.locals.count()
     }
 
-    /// Only the oldest locals stay visible, so many of them.
+    /// Forgets all but the oldest `count` locals.
     pub(crate) fn forget(&mut self, count: usize) -> Result<(), OutOfMemory>
         ensures { OnOk result (self.new ≡ record self.old {
           locals = drop (length self.old.locals - count) self.old.locals;
