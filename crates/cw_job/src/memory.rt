@@ -6,7 +6,7 @@ use cw_base::OutOfMemory;
 use cw_code::CellInfo;
 use std::alloc::Global;
 
-/// What the memory holds at first.
+/// Returns what the memory holds at first.
 pub fn first_memory(alloc: Global, cells: &[CellInfo]) -> Result<Vec<i64>, OutOfMemory>
     ensures { IfOk result (λ v. v.items ≡ first_memory cells.now) }
 {
@@ -17,7 +17,7 @@ pub fn first_memory(alloc: Global, cells: &[CellInfo]) -> Result<Vec<i64>, OutOf
     Ok(memory)
 }
 
-/// Adds the elements of a cell.
+/// Adds the elements of a cell to `memory`.
 fn add_elements(memory: &mut Vec<i64>, cell: &CellInfo) -> Result<(), OutOfMemory>
     ensures { OnOk result
         (memory.new.items ≡ memory.old.items ++ replicate (elements cell.now.len) cell.now.init) }
@@ -27,7 +27,7 @@ fn add_elements(memory: &mut Vec<i64>, cell: &CellInfo) -> Result<(), OutOfMemor
     Ok(())
 }
 
-/// What the memory holds at an element, and 0 where there is none.
+/// Returns what the memory holds at `element`, or 0 if there is none.
 pub fn value_at(memory: &[i64], element: usize) -> i64
     ensures { result ≡ value_at memory.now element }
 {

@@ -1,5 +1,5 @@
-//! The strands of a run, at their wants, over the code of its program. This file, with `specs/Room` and `proofs/Room`, is the one room that
-//! knows what a strand is made of: all else knows the law of strands alone.
+//! The strands of a run, at their wants, over the code of its program. This file, with `specs/Room` and `proofs/Room`,
+//! is the one room that knows what a strand is made of. All other code knows the law of strands alone.
 ghost use Rattle.std.specs.Prelude.{◌≡◌, length, IfOk, OnOk};
 ghost use Rattle.cw_strand.specs.declared.want.Want.TheVariants as Want;
 
@@ -21,7 +21,7 @@ impl Standing {
     ghost use Rattle.cw_job.specs.Room.Saves.{IsSavedOf, MayRollBack};
     ghost use Rattle.cw_job.specs.Room.Strands.{IsOf, state_of, strands_of_job};
 
-    /// The strand of main, at its first want.
+    /// Returns the strand of main, at its first want.
     pub fn start(
         alloc: Global,
         program: &Program,
@@ -38,14 +38,14 @@ impl Standing {
         Ok(Standing { strand, want })
     }
 
-    /// What it stands at.
+    /// The want of the strand.
     pub fn want(&self) -> Want
         ensures { (job : Job) → result ≡ (strands_of_job job).want (state_of self.now) }
     {
         self.want
     }
 
-    /// Goes on to the next want, once this one is answered.
+    /// Answers the want with `given` and goes on to the next want.
     pub fn answer(&mut self, given: Given, program: &Program) -> Result<(), OutOfMemory>
         requires { IsOf program.now self.old }
         ensures answer { OnOk result ((job : Job) → job.program ≡ program.now →
@@ -56,7 +56,7 @@ impl Standing {
         Ok(())
     }
 
-    /// The left strand of the fork that this one wants. This one goes on as the right strand.
+    /// Returns the left strand of the fork that this strand wants. This strand goes on as the right one.
     pub fn fork(&mut self, program: &Program) -> Result<Standing, OutOfMemory>
         requires stands { IsOf program.now self.old }
         requires fork { (strands_of_job (bare_job program.now)).want (state_of self.old) ≡ Want.Fork }
@@ -73,8 +73,8 @@ impl Standing {
         Ok(Standing { strand, want })
     }
 
-    /// As the right strand of a fork, at its end, becomes the strand that forked and goes on to the next want. The left strand is at its
-    /// end, too.
+    /// Joins the left strand to this one, the right strand of its fork. Both are at their ends. This one becomes the
+    /// strand that forked, and goes on to the next want.
     pub fn join(&mut self, left: Standing, program: &Program) -> Result<(), OutOfMemory>
         requires { IsOf program.now self.old }
         ensures joined { OnOk result ((job : Job) → job.program ≡ program.now →
@@ -86,7 +86,7 @@ impl Standing {
         Ok(())
     }
 
-    /// Keeps what it needs to stand here again, at the begin of a block that it wants.
+    /// Keeps what the strand needs to be here again, at the begin of a block that it wants.
     pub fn save(&self) -> Result<Saved, OutOfMemory>
         ensures { IfOk result (λ saved. (program : Program) → IsOf program self.now → (strands_of_job (bare_job program)).want (state_of self.now) ≡ Want.Begin →
             IsSavedOf program saved (state_of self.now)) }
@@ -95,7 +95,7 @@ impl Standing {
         Ok(saved)
     }
 
-    /// Goes back to the begin of a block inside which it stands, at its want: that is the begin of the block again. Takes no memory.
+    /// Goes back to the begin of a block that the strand is inside: it wants the begin of the block again. Takes no memory.
     pub fn back(&mut self, saved: &Saved)
         requires { MayRollBack saved.now (state_of self.old) }
         ensures back { (m : MayRollBack saved.now (state_of self.old)) → state_of self.new ≡ m.begin }

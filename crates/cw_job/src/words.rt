@@ -3,7 +3,7 @@ ghost use Rattle.cw_job.specs.Jobs.{TakesWords};
 
 use cw_code::Program;
 
-/// Whether the program's main has so many parameters: a run takes as many words.
+/// Whether the program's main has `words` parameters. A run takes as many words.
 pub fn takes_words(program: &Program, words: usize) -> bool
     ensures { IsTrue result ↔ TakesWords program.now words }
 {

@@ -7,16 +7,16 @@ use Rattle.cw_strand.specs.Saving.{Kept, kept_of, Inside, StaysIn, StandsLike}
 use Rattle.cw_job.specs.Jobs.{Job}
 use Rattle.cw_job.specs.Room.Strands.{StrandState, strands_of_job}
 
--- Of this begin of a block of a program this is kept.
+-- `saved` is what is kept of `begin`, the begin of a block of the program.
 unfoldable pub IsSavedOf : Program → Kept → StrandState → Type 0
 IsSavedOf program saved begin = (begin.want ≡ Begin) × (StandsWanting program.code Begin begin.state × (saved ≡ kept_of begin.state))
 
--- One strand stands where the other does, whatever each spent and counted.
+-- The two strands are in the same state, whatever each spent and counted.
 unfoldable pub StandsAs : (now there : StrandState) → Type 0
 StandsAs now there = StandsLike now.state there.state
 
--- Of the begin of a block this is kept, and this strand stands where one does that is inside the block, and does not want the block's own
--- end.
+-- `saved` was kept at the begin of a block. The strand is in the state of one that is inside the block and does not
+-- want the block's own end.
 pub record MayRollBack (saved : Kept) (now : StrandState) : Type 0 where
   pub job : Job
   pub begin : StrandState
