@@ -1,4 +1,4 @@
--- The accesses of a cell as they stand in a tree, and an access that is made next, at a place.
+-- The accesses of a cell in a tree, and an access that is made next, at a place.
 use Rattle.std.specs.Prelude.{ℕ, ℤ, ◌<◌, Bool, false, IsTrue, List, [], ◌∷◌, length, map, Option, Some, None, unwrap_or, All, if◌then◌else◌}
 use Rattle.cw_tree.specs.declared.node.Node.{Node}
 use Rattle.cw_tree.specs.declared.node.Kind.{Kind}
@@ -13,21 +13,21 @@ use Rattle.cw_tree.specs.Journals.{AreEntries}
 abbrev pub conflict_at : List Node → ℕ → ℕ → Bool
 conflict_at t u p = conflict t u p
 
--- the same with the newest of some accesses, oldest first
+-- it conflicts with the newest of some accesses, oldest first
 abbrev pub newest_conflicts : List Node → List ℕ → ℕ → Bool
 newest_conflicts t [] p = false
 newest_conflicts t (u ∷ []) p = conflict_at t u p
 newest_conflicts t (u ∷ v ∷ us) p = newest_conflicts t (v ∷ us) p
 
--- these are numbers of nodes
+-- the numbers us are numbers of nodes
 abbrev pub AreThere : List Node → List ℕ → Type 0
 AreThere t us = All (λ u. u < length t) us
 
--- the access that has a stamp
+-- the access that has the stamp s
 abbrev pub access_at : List Node → ℕ → ℕ
 access_at t s = unwrap_or (with_stamp t s) 0
 
--- an access of cell c that wrote a value, or else read the answer
+-- the kind of an access of cell c that wrote w, or that read the answer
 abbrev pub access_kind : ℕ → Option ℤ → ℤ → Kind
 access_kind c None answer = Read c answer
 access_kind c (Some w) answer = Write c w
@@ -40,7 +40,7 @@ written_by e = if e.wrote then Some e.value else None
 abbrev pub stamps : List Entry → List ℕ
 stamps es = map (λ e. e.mark.stamp) es
 
--- accesses of cell c, oldest first, make a chain, and es are their entries; the first of them met value v
+-- the accesses us of cell c, oldest first, make a chain, and es are their entries; the first of them met the value v
 pub record IsAccessStack (t : List Node) (c : ℕ) (v : ℤ) (us : List ℕ) (es : List Entry) : Type 0 where
   pub accesses : All (λ u. IsTrue (touches t c u)) us
   pub entries : AreEntries t v us es

@@ -15,7 +15,7 @@ abbrev pub tried_cell_in : Kind → Option ℕ
 tried_cell_in (Tried c) = Some c
 tried_cell_in _ = None
 
--- the cell of which node n is a refused access
+-- the cell of the refused access n
 abbrev pub tried_cell : List Node → ℕ → Option ℕ
 tried_cell t n =
     cell_in (slice_get t n) where
@@ -27,15 +27,15 @@ abbrev pub same_cell : Option ℕ → Option ℕ → Bool
 same_cell (Some c) (Some d) = c == d
 same_cell _ _ = false
 
--- the number of block b among its attempts: those right before it in its place were rolled back
+-- the number of block b among its attempts: the blocks directly before it in its place were rolled back
 abbrev pub block_attempt : List Node → ℕ → ℕ
 block_attempt t b = suffix_len (is_aborted t) (elders t b) + 1
 
--- the number of refused access v among the refusals of it: those right before it are refusals of the same cell
+-- the number of the refused access v among its refusals: the nodes directly before it are refusals of the same cell
 abbrev pub access_attempt : List Node → ℕ → ℕ
 access_attempt t v = suffix_len (λ m. same_cell (tried_cell t m) (tried_cell t v)) (elders t v) + 1
 
--- the number of the attempt that was refused with v: the victim's, or else that of the access itself
+-- the number of the attempt that was refused with v: the victim's, otherwise that of the access itself
 abbrev pub attempt_of : List Node → ℕ → Option ℕ → ℕ
 attempt_of t v None = access_attempt t v
 attempt_of t v (Some b) = block_attempt t b

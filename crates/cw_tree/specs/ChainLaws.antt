@@ -10,7 +10,7 @@ use Rattle.cw_tree.specs.AccessStacks.{conflict_at, newest_conflicts, AreThere, 
 
 -- ## Conflicts of an access that is made next, at a place
 
--- what conflicts at a place is what conflicts with the access, once that is a node
+-- what conflicts at a place is what conflicts with the access after it became a node
 abbrev pub ConflictsAt : Type 0
 ConflictsAt = (t : List Node) (x : Node) (u : ℕ) → IsRooted t → u < length t → x.parent < length t → conflict (t ++ x ∷ []) u (length t) ≡ conflict_at t u x.parent
 
@@ -18,13 +18,13 @@ ConflictsAt = (t : List Node) (x : Node) (u : ℕ) → IsRooted t → u < length
 abbrev pub ConflictsGrow : Type 0
 ConflictsGrow = (t s : List Node) (u p : ℕ) → IsRooted t → u < length t → p < length t → conflict_at (t ++ s) u p ≡ conflict_at t u p
 
--- where there was no conflict, there is none when any block is closed
+-- closing a block makes no new conflict
 abbrev pub ConflictsClose : Type 0
 ConflictsClose =
     (t : List Node) (u p b : ℕ) (state : BlockState) (end : ℕ)
     → IsRooted t → u < length t → p < length t → is_pending_state state ≡ false → conflict_at t u p ≡ false → conflict_at (closed t b state end) u p ≡ false
 
--- the same of the newest of some accesses
+-- the same for the newest of some accesses
 abbrev pub NewestGrow : Type 0
 NewestGrow = (t s : List Node) (us : List ℕ) (p : ℕ) → IsRooted t → AreThere t us → p < length t → newest_conflicts (t ++ s) us p ≡ newest_conflicts t us p
 
@@ -39,19 +39,19 @@ NewestClose =
 abbrev pub ChainsGrow : Type 0
 ChainsGrow = (t s : List Node) (us : List ℕ) → IsRooted t → AreThere t us → IsChain t us → IsChain (t ++ s) us
 
--- and when any block is closed, whichever way
+-- a chain stays one when any block is closed, whichever way
 abbrev pub ChainsClose : Type 0
 ChainsClose =
     (t : List Node) (us : List ℕ) (b : ℕ) (state : BlockState) (end : ℕ)
     → IsRooted t → AreThere t us → is_pending_state state ≡ false → IsChain t us → IsChain (closed t b state end) us
 
--- a node that is added where the newest of a chain does not conflict comes behind the chain
+-- a node that is added where the newest of a chain does not conflict extends the chain
 abbrev pub ChainsExtend : Type 0
 ChainsExtend =
     (t : List Node) (x : Node) (us : List ℕ)
     → IsRooted t → x.parent < length t → AreThere t us → IsChain t us → newest_conflicts t us x.parent ≡ false → IsChain (t ++ x ∷ []) (us ++ length t ∷ [])
 
--- a front of a chain is one, and so is an end
+-- a front of a chain is a chain, and so is an end
 abbrev pub PartsAreChains : Type 0
 PartsAreChains = (t : List Node) (us vs : List ℕ) → IsChain t (us ++ vs) → IsChain t us × IsChain t vs
 
@@ -61,7 +61,7 @@ EachFollows =
     (t : List Node) (us vs ws : List ℕ) (u v : ℕ)
     → IsRooted t → AreThere t (us ++ u ∷ vs ++ v ∷ ws) → IsChain t (us ++ u ∷ vs ++ v ∷ ws) → IsTrue (lets_follow t (nua t u) (nua t v))
 
--- so what is left of a chain where any accesses are taken out is one
+-- what is left of a chain after any accesses are taken out is a chain
 abbrev pub SomeAreChains : Type 0
 SomeAreChains = (t : List Node) (p : ℕ → Bool) (us : List ℕ) → IsRooted t → AreThere t us → IsChain t us → IsChain t (filter p us)
 
@@ -92,7 +92,7 @@ StampConflictsClose =
     → IsRooted t → IsChainOf t c stamps → p < length t → is_pending_state state ≡ false
     → newest_conflicts t (map (access_at t) stamps) p ≡ false → newest_conflicts (closed t b state end) (map (access_at (closed t b state end)) stamps) p ≡ false
 
--- the new access has a stamp that no node has
+-- no node has the stamp of the new access yet
 abbrev pub StampsExtend : Type 0
 StampsExtend =
     (t : List Node) (x : Node) (c : ℕ) (stamps : List ℕ)

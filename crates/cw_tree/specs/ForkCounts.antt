@@ -1,4 +1,4 @@
--- How many forks in a node count at what follows it in its strand: what one pass over the tree adds up.
+-- How many forks in a node count at what follows it in its strand. One pass over the tree adds them up.
 use Rattle.std.specs.Prelude.{ℕ, ◌&&◌, Bool, not, List, take_while, count_by, if◌then◌else◌}
 use Rattle.cw_tree.specs.declared.node.Node.{Node}
 use Rattle.cw_tree.specs.Nodes.{is_strand, is_fork, is_aborted, all_nodes}
@@ -11,7 +11,7 @@ one_if b = if b then 1 else 0
 abbrev pub lets_out : List Node → ℕ → Bool
 lets_out t n = not (is_strand t n) && not (is_aborted t n)
 
--- the way up from n before it comes to a strand or a block that was rolled back
+-- the way up from n, up to a strand or a block that was rolled back
 abbrev pub way_out : List Node → ℕ → List ℕ
 way_out t n = take_while (lets_out t) (path t n)
 

@@ -1,4 +1,4 @@
--- What a run leaves in its tree, journals and conflicts, whatever strands ran and however it came to its end.
+-- What a run leaves in its tree, journals and conflicts, whatever strands ran and however it ended.
 use Rattle.std.specs.Prelude.{ℤ, List, length}
 use Rattle.cw_tree.specs.declared.node.Node.{Node}
 use Rattle.cw_tree.specs.declared.access.Entry.{Entry}
@@ -8,7 +8,7 @@ use Rattle.cw_tree.specs.Journals.{AreJournals, FitsCells, JournalsEnded}
 use Rattle.cw_tree.specs.Cancels.{AreCancels}
 use Rattle.cw_tree.specs.Refusals.{AreRefusals, RollsBack}
 
--- the tree of a run over cells with these first values, the cells' journals, and its conflicts
+-- the tree of a run over cells with the first values `first`, the cells' journals, and its conflicts
 pub record IsHistory (t : List Node) (first : List ℤ) (kept : List (List Entry)) (cs : List Conflict) : Type 0 where
   pub tree : IsTree t
   pub stamps : AreStamps t

@@ -1,4 +1,4 @@
--- The tree of a run in depth-first order: its nodes are numbered as a depth-first walk comes to them, and what names nodes is renamed.
+-- The tree of a run in depth-first order: its nodes are numbered in the order of a depth-first walk, and all that names nodes is renamed.
 use Rattle.std.specs.Prelude.{ℕ, ◌==◌, List, map, slice_index_or, Option, Some}
 use Rattle.std.specs.List.{position_or_len}
 use Rattle.cw_tree.specs.declared.node.Node.{Node}
@@ -10,7 +10,7 @@ use Rattle.cw_tree.specs.Nodes.{fresh_node}
 use Rattle.cw_tree.specs.Series.{depth_first}
 use Rattle.cw_tree.specs.Accesses.{by_key}
 
--- the new number of node n: its place in depth-first order
+-- the new number of node n: its position in depth-first order
 abbrev pub renamed : List Node → ℕ → ℕ
 renamed t n = position_or_len (λ m. m == n) (depth_first t)
 
@@ -18,7 +18,7 @@ renamed t n = position_or_len (λ m. m == n) (depth_first t)
 abbrev pub with_parent_renamed : List Node → Node → Node
 with_parent_renamed t node = record node { parent = renamed t node.parent }
 
--- node n as it stands in the new tree
+-- node n as it is in the new tree
 abbrev pub node_in_order : List Node → ℕ → Node
 node_in_order t n = with_parent_renamed t (slice_index_or t n (fresh_node 0 Strand 0))
 
@@ -33,7 +33,7 @@ conflict_in_order t c = record c { asker = renamed t c.asker }
 abbrev pub asker_of : Conflict → ℕ
 asker_of c = c.asker
 
--- conflicts by rising askers; those of an equal asker stay in their order
+-- conflicts by rising askers; those with an equal asker stay in their order
 abbrev pub by_asker : List Conflict → List Conflict
 by_asker = by_key asker_of
 
@@ -41,7 +41,7 @@ by_asker = by_key asker_of
 abbrev pub conflicts_in_order : List Node → List Conflict → List Conflict
 conflicts_in_order t cs = by_asker (map (conflict_in_order t) cs)
 
--- why the run stopped, the strand renamed
+-- why the run stopped, with the strand renamed
 abbrev pub halt_in_order : List Node → Option Halt → Option Halt
 halt_in_order t (Some (Fault s kind)) = Some (Fault (renamed t s) kind)
 halt_in_order t (Some (Budget s)) = Some (Budget (renamed t s))

@@ -1,5 +1,5 @@
--- Journals: for each cell its live accesses, oldest first, each with the cell's value after it and before it.
--- The column in an entry's mark is no part of what is said here.
+-- Journals: for each cell its live accesses, oldest first, each with the cell's value after it and before it. Nothing
+-- is said here of the column in an entry's mark.
 use Rattle.std.specs.Prelude.{◌≡◌, ℕ, ℤ, ◌<◌, ◌&&◌, Bool, true, not, nat_lt, IsTrue, is_some, List, [], ◌∷◌, length, slice_get, Some, unwrap_or}
 use Rattle.cw_tree.specs.declared.node.Node.{Node}
 use Rattle.cw_tree.specs.declared.node.Kind.{Kind}
@@ -28,7 +28,7 @@ AreEntries t v (u ∷ us) (e ∷ es) = IsEntry t v u e × AreEntries t (unwrap_o
 abbrev pub IsJournal : List Node → ℕ → ℤ → List Entry → Type 0
 IsJournal t c v es = AreEntries t v (live_accesses t c) es
 
--- the journals of all cells, with these first values
+-- the journals of all cells, with the first values `first`
 pub record AreJournals (t : List Node) (first : List ℤ) (kept : List (List Entry)) : Type 0 where
   pub len : length kept ≡ length first
   pub each : (c : ℕ) (v : ℤ) (es : List Entry) → slice_get first c ≡ Some v → slice_get kept c ≡ Some es → IsJournal t c v es
@@ -38,7 +38,7 @@ fits_cells k (Read c v) = nat_lt c k
 fits_cells k (Write c v) = nat_lt c k
 fits_cells k _ = true
 
--- every access is of one of so many cells
+-- every access is of one of the cells below k
 abbrev pub FitsCells : List Node → ℕ → Type 0
 FitsCells t k = (n : ℕ) → n < length t → IsTrue (is_node (λ x. fits_cells k x.kind) t n)
 
@@ -46,12 +46,12 @@ FitsCells t k = (n : ℕ) → n < length t → IsTrue (is_node (λ x. fits_cells
 abbrev pub EndedBetween : List Node → ℕ → ℕ → Type 0
 EndedBetween t u v = (b : ℕ) → b < length t → IsTrue (is_block t b && is_above t b u && not (is_above t b v)) → IsTrue (is_committed t b) × (end_of t b < stamp_of t v)
 
--- the same of accesses, each and the next
+-- the same for each of some accesses and the next
 abbrev pub AllEndedBetween : List Node → List ℕ → Type 0
 AllEndedBetween t [] = Unit {0}
 AllEndedBetween t (u ∷ []) = Unit {0}
 AllEndedBetween t (u ∷ v ∷ us) = EndedBetween t u v × AllEndedBetween t (v ∷ us)
 
--- the same of the journals of so many cells
+-- the same for the journals of the cells below k
 abbrev pub JournalsEnded : List Node → ℕ → Type 0
 JournalsEnded t k = (c : ℕ) → c < k → AllEndedBetween t (live_accesses t c)

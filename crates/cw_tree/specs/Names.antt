@@ -1,5 +1,5 @@
--- Names of strands. A strand's k-th fork gives .kl and .kr after its name.
--- Forks of attempts that were rolled back are not counted by those after them.
+-- Names of strands. A strand's k-th fork gives .kl and .kr after its name. What comes after an attempt that was rolled
+-- back does not count its forks.
 use Rattle.std.specs.Prelude.{ℕ, ◌+◌, ◌==◌, ◌&&◌, ◌||◌, Bool, not, nat_lt, List, ◌++◌, filter, map, reverse, count_by, codes, if◌then◌else◌}
 use Rattle.std.specs.List.{list_any, list_all, flat_map}
 use Rattle.std.specs.Fmt.{decimal}
@@ -13,7 +13,7 @@ use Rattle.cw_tree.specs.Series.{strand_of, is_before}
 abbrev pub fork_counts_at : List Node → ℕ → ℕ → Bool
 fork_counts_at t n g = is_fork t g && (strand_of t g == strand_of t n) && is_before t g n && list_all (λ a. not (is_aborted t a) || is_above t a n) (above t g)
 
--- which fork of its strand f is, from 1
+-- which fork of its strand f is, counted from 1
 abbrev pub fork_number : List Node → ℕ → ℕ
 fork_number t f = count_by (fork_counts_at t f) (all_nodes t) + 1
 
@@ -25,7 +25,7 @@ is_right t s = list_any (λ m. nat_lt 0 m && is_strand t m && (parent_of t m == 
 abbrev pub turn : List Node → ℕ → Turn
 turn t s = record { fork = fork_number t (parent_of t s); right = is_right t s }
 
--- the strands on the way up from n but the root, innermost first
+-- the strands on the way up from n except the root, innermost first
 abbrev pub strands_on : List Node → ℕ → List ℕ
 strands_on t n = filter (λ m. nat_lt 0 m && is_strand t m) (path t n)
 

@@ -15,7 +15,7 @@ pub record IsPlace (t : List Node) (p : ℕ) : Type 0 where
   pub holds : IsTrue (is_strand t p || is_block t p)
   -- nothing comes after it in series
   pub last : (n : ℕ) → n < length t → is_before t p n ≡ false
-  -- the blocks above it are pending, and so is it if it is one; beneath it none is
+  -- every block above it is pending, and so is the place itself if it is a block; no block beneath it is
   pub around : (b : ℕ) → IsTrue (is_block t b && is_ancestor t b p) → IsTrue (is_pending t b)
   pub within : (b : ℕ) → b < length t → IsTrue (is_above t p b) → is_pending t b ≡ false
 
@@ -23,7 +23,7 @@ pub record IsPlace (t : List Node) (p : ℕ) : Type 0 where
 abbrev pub is_before_at : List Node → ℕ → ℕ → Bool
 is_before_at t n p = is_above t p n || is_before t n p
 
--- nothing was stamped with this number
+-- nothing has the stamp s
 abbrev pub IsFresh : List Node → ℕ → Type 0
 IsFresh t s = (n : ℕ) → n < length t → (stamp_of t n ≢ s) × (end_of t n ≢ s)
 
@@ -44,7 +44,7 @@ pub record IsEndStamp (t : List Node) (b s : ℕ) : Type 0 where
 abbrev pub fork_nodes : (n p stamp : ℕ) → List Node
 fork_nodes n p stamp = fresh_node p Fork stamp ∷ fresh_node n Strand 0 ∷ fresh_node n Strand 0 ∷ []
 
--- what is true of the tree of a run, but for the nodes that a run adds at its places
+-- what is true of the tree of a run, except for the nodes that a run adds at its places
 pub record IsSound (t : List Node) : Type 0 where
   pub tree : IsTree t
   pub stamps : AreStamps t
@@ -52,20 +52,20 @@ pub record IsSound (t : List Node) : Type 0 where
 
 -- ## Laws
 
--- it stays true as a node comes that is neither a strand nor a fork
+-- A tree stays sound when a node is added that is neither a strand nor a fork nor a refused access
 abbrev pub SoundGrows : Type 0
 SoundGrows =
     (t : List Node) (p : ℕ) (kind : Kind) (stamp : ℕ) → IsSound t → IsPlace t p → is_strand_kind kind ≡ false → is_fork_kind kind ≡ false → is_tried_kind kind ≡ false → IsNextStamp t p stamp
     → IsSound (t ++ fresh_node p kind stamp ∷ [])
 
--- as an access is refused
+-- A tree stays sound when an access is refused
 abbrev pub SoundRefuses : Type 0
 SoundRefuses = (t : List Node) (p : ℕ) (kind : Kind) → IsSound t → IsPlace t p → IsTrue (is_tried_kind kind) → IsSound (t ++ fresh_node p kind 0 ∷ [])
 
--- as a strand forks
+-- A tree stays sound when a strand forks
 abbrev pub SoundForks : Type 0
 SoundForks = (t : List Node) (p stamp : ℕ) → IsSound t → IsPlace t p → IsNextStamp t p stamp → IsSound (t ++ fork_nodes (length t) p stamp)
 
--- and as a block is closed, whichever way
+-- A tree stays sound when a block is closed, whichever way
 abbrev pub SoundCloses : Type 0
 SoundCloses = (t : List Node) (b : ℕ) (state : BlockState) (end : ℕ) → IsSound t → IsPlace t b → IsTrue (is_block t b) → is_pending_state state ≡ false → IsEndStamp t b end → IsSound (closed t b state end)

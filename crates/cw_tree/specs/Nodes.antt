@@ -1,4 +1,4 @@
--- What the nodes of a tree are. A tree is the list of its nodes; a node is named by its place there, its number.
+-- What the nodes of a tree are. A tree is the list of its nodes. A node is named by its position there, its number.
 use Rattle.std.specs.Prelude.{ℕ, zero, suc, ◌==◌, ◌&&◌, Bool, true, false, List, [], ◌∷◌, ◌++◌, length, slice_get, slice_set, Option, Some, None, find, if◌then◌else◌}
 use Rattle.cw_tree.specs.declared.node.Node.{Node}
 use Rattle.cw_tree.specs.declared.node.Kind.{Kind}
@@ -53,7 +53,7 @@ abbrev pub passes : (Node → Bool) → Option Node → Bool
 passes p None = false
 passes p (Some node) = p node
 
--- whether node n is there and passes a test
+-- node n exists and passes a test
 abbrev pub is_node : (Node → Bool) → List Node → ℕ → Bool
 is_node p t n = passes p (slice_get t n)
 
@@ -84,7 +84,7 @@ touches t c = is_node (λ x. touches_kind c x.kind) t
 abbrev pub tries : List Node → ℕ → ℕ → Bool
 tries t c = is_node (λ x. tries_kind c x.kind) t
 
--- a number that node n has, or 0 where it is not there
+-- a number that node n has, or 0 if there is no such node
 abbrev pub number_in : (Node → ℕ) → Option Node → ℕ
 number_in f None = 0
 number_in f (Some node) = f node
@@ -125,11 +125,11 @@ abbrev pub first_state : Kind → BlockState
 first_state Block = Pending
 first_state _ = Committed
 
--- a new node: a block is pending
+-- a new node; a block is pending
 abbrev pub fresh_node : ℕ → Kind → ℕ → Node
 fresh_node parent kind stamp = record { parent = parent; kind = kind; state = first_state kind; stamp = stamp; end = 0 }
 
--- block n was closed
+-- closes block n
 abbrev pub closed : List Node → ℕ → BlockState → ℕ → List Node
 closed t n state end =
     close (slice_get t n) where

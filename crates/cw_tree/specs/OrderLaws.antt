@@ -1,4 +1,5 @@
--- What a tree in depth-first order is to the tree that it was made of: a renaming that keeps what a node is, and what stands above it.
+-- How a tree in depth-first order relates to the tree that it was made of: its nodes are renamed, but keep what they
+-- are and what is above them.
 use Rattle.std.specs.Prelude.{◌≡◌, ℕ, ◌<◌, List, length, map, slice_get, option_map}
 use Rattle.cw_tree.specs.declared.node.Node.{Node}
 use Rattle.cw_tree.specs.Nodes.{all_nodes}
@@ -7,11 +8,11 @@ use Rattle.cw_tree.specs.Series.{children, is_before, depth_first}
 use Rattle.cw_tree.specs.NextNodes.{IsSound}
 use Rattle.cw_tree.specs.InOrder.{renamed, with_parent_renamed, in_order}
 
--- the new tree is a tree of as many nodes
+-- the new tree is a tree with as many nodes
 abbrev pub TreesStay : Type 0
 TreesStay = (t : List Node) → IsNumbered t → IsNumbered (in_order t) × (length (in_order t) ≡ length t)
 
--- each node is there under its new number, and is as it was: its kind, its state, its stamp and its end
+-- each node is there under its new number, and keeps its kind, its state, its stamp and its end
 abbrev pub NodesStay : Type 0
 NodesStay = (t : List Node) → IsNumbered t → (n : ℕ) → n < length t → (renamed t n < length t) × (slice_get (in_order t) (renamed t n) ≡ option_map (with_parent_renamed t) (slice_get t n))
 
@@ -19,7 +20,7 @@ NodesStay = (t : List Node) → IsNumbered t → (n : ℕ) → n < length t → 
 abbrev pub NumbersDiffer : Type 0
 NumbersDiffer = (t : List Node) → IsNumbered t → (renamed t 0 ≡ 0) × ((n m : ℕ) → n < length t → m < length t → renamed t n ≡ renamed t m → n ≡ m)
 
--- what stands above a node stands above it still, and nothing else does
+-- the same nodes are above a node as before
 abbrev pub AncestorsStay : Type 0
 AncestorsStay =
     (t : List Node) → IsNumbered t → (a n : ℕ) → a < length t → n < length t
@@ -33,7 +34,7 @@ SiblingsStay = (t : List Node) → IsNumbered t → (n : ℕ) → n < length t �
 abbrev pub NumberedDepthFirst : Type 0
 NumberedDepthFirst = (t : List Node) → IsNumbered t → depth_first (in_order t) ≡ all_nodes (in_order t)
 
--- what is before another in series is before it still
+-- one node is before another in series exactly if it was so in the old tree
 abbrev pub SeriesStay : Type 0
 SeriesStay = (t : List Node) → IsNumbered t → (a b : ℕ) → a < length t → b < length t → is_before (in_order t) (renamed t a) (renamed t b) ≡ is_before t a b
 

@@ -1,4 +1,4 @@
--- Refused accesses: what a conflict tells, and how the conflicts of a run and its rolled-back blocks go together.
+-- Refused accesses: what a conflict tells, and how the conflicts of a run and its rolled-back blocks fit together.
 use Rattle.std.specs.Prelude.{◌≡◌, ℕ, ◌<◌, ◌≤◌, ◌==◌, ◌&&◌, ◌||◌, Bool, false, not, IsTrue, List, [], ◌∷◌, ◌++◌, map, length, filter, find, Option, Some, None, option_map, is_some, unwrap_or, All, if◌then◌else◌}
 use Rattle.std.specs.List.{list_any}
 use Rattle.std.specs.Option.{option_map_or}
@@ -15,11 +15,11 @@ use Rattle.cw_tree.specs.Accesses.{is_live, HasAccess}
 
 -- ## One conflict
 
--- the outermost block above v that is not above u: every block above the place of an access is pending when the access is refused
+-- the outermost block above v that is not above u; every block above the place of an access is pending when the access is refused
 abbrev pub outermost_apart : List Node → ℕ → ℕ → Option ℕ
 outermost_apart t u v = outermost (λ m. is_block t m && not (is_above t m u)) (above t v)
 
--- the begin stamp of the block that has to roll back for a conflict, if one has to: in the conflict the number 0 stands for none
+-- the begin stamp of the block that has to roll back for a conflict, if one has to; in the conflict the number 0 means none
 abbrev pub victim_of : Conflict → Option ℕ
 victim_of c = if c.victim == 0 then None else Some c.victim
 
@@ -35,7 +35,8 @@ pub record IsRefusal (t : List Node) (c : Conflict) (u b : ℕ) : Type 0 where
   pub chain_rises : IsStrictlyIncreasing c.chain
   pub chain_accesses : All (HasAccess t c.cell) c.chain
   pub chain_last : (xs : List ℕ) × (c.chain ≡ xs ++ c.last ∷ [])
-  -- there was a moment for it: what is before the asker came before what is after the block, and the last access before what is after the asker
+  -- There was a moment for it. What is before the asker came before what is after the block, and the last access before
+  -- what is after the asker.
   pub before_after_block : (n m : ℕ) → n < length t → m < length t → IsTrue (is_before t n c.asker) → IsTrue (is_before t b m) → 0 < stamp_of t m → (stamp_of t n < stamp_of t m) × (end_of t n < stamp_of t m)
   pub begun_after_block : (n m : ℕ) → n < length t → m < length t → IsTrue (is_block t n && is_above t n c.asker) → IsTrue (is_before t b m) → 0 < stamp_of t m → stamp_of t n < stamp_of t m
   pub last_after_asker : (m : ℕ) → m < length t → IsTrue (is_before t c.asker m) → 0 < stamp_of t m → c.last < stamp_of t m
@@ -61,14 +62,14 @@ pub record AreRefusals (t : List Node) (cs : List Conflict) : Type 0 where
 abbrev pub names_victim : List Conflict → ℕ → Bool
 names_victim cs n = list_any (λ c. (c.asker == n) && is_some (victim_of c)) cs
 
--- a strand that rolls back goes on with nothing else until it comes to the victim's place
+-- a strand that rolls back does nothing else until it is at the victim's place
 pub record RollsBack (t : List Node) (cs : List Conflict) : Type 0 where
   pub tried : (n : ℕ) → n < length t → IsTrue (names_victim cs n) → has_later t n ≡ false
   pub aborted : (n : ℕ) → n < length t → IsTrue (is_aborted t n && not (is_victim t cs n)) → has_later t n ≡ false
 
 -- ## Where a run stopped
 
--- what was refused stands in strand s: this victim was begun in s, or there is none and the asker is the last node of s
+-- what was refused is in strand s: the victim was begun in s, or there is none and the asker is the last node of s
 abbrev pub is_refused_in : List Node → (s asker : ℕ) → (victim : Option ℕ) → Bool
 is_refused_in t s asker None = last_of t s == asker
 is_refused_in t s asker (Some v) = option_map_or (λ b. strand_of t b == s) (block_with_stamp t v) false
@@ -77,7 +78,7 @@ is_refused_in t s asker (Some v) = option_map_or (λ b. strand_of t b == s) (blo
 abbrev pub tells : List Node → ℕ → ℕ → Conflict → Bool
 tells t budget s c = (c.attempt == budget) && is_refused_in t s c.asker (victim_of c)
 
--- the first conflict that tells so
+-- the first conflict that tells this
 abbrev pub telling : List Node → List Conflict → ℕ → ℕ → Option Conflict
 telling t cs budget s = find (tells t budget s) cs
 
@@ -85,21 +86,21 @@ telling t cs budget s = find (tells t budget s) cs
 abbrev pub refused_node : List Node → Conflict → ℕ
 refused_node t c = option_map_or (λ v. unwrap_or (block_with_stamp t v) 0) (victim_of c) c.asker
 
--- what a conflict refused may be the end of a run: that block is pending, or that access is the last, and no block above was rolled back
+-- what a conflict refused may be the end of a run: the block is pending, or the access is the last, and no block above was rolled back
 abbrev pub may_be_last : List Node → Conflict → Bool
 may_be_last t c = is_live t (refused_node t c) && (is_tried t (refused_node t c) || is_pending t (refused_node t c))
 
--- A strand of the tree has spent its budget, where a conflict tells so.
+-- A strand of the tree has spent its budget, as a conflict tells.
 pub record Spent (t : List Node) (cs : List Conflict) (budget s : ℕ) : Type 0 where
   pub strand : IsTrue (is_strand t s)
   pub told : IsTrue (option_map_or (may_be_last t) (telling t cs budget s) false)
 
--- a run may have stopped so, where it was at a fault: that is one of a strand, and no block above was rolled back
+-- if the run stopped at a fault, this is the fault of a strand, and no block above the strand was rolled back
 abbrev pub MayFault : List Node → Option Halt → Type 0
 MayFault t (Some (Fault s kind)) = IsTrue (is_strand t s && is_live t s)
 MayFault t halt = Unit {0}
 
--- a run may have stopped so, where it was because a strand spent its budget
+-- if the run stopped because a strand spent its budget, that strand has spent it
 abbrev pub MaySpend : List Node → List Conflict → ℕ → Option Halt → Type 0
 MaySpend t cs budget (Some (Budget s)) = Spent t cs budget s
 MaySpend t cs budget halt = Unit {0}

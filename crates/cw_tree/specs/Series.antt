@@ -1,16 +1,16 @@
--- Strands, and the order of a tree's nodes: in series, in parallel, and depth first.
--- Strands and blocks have their children in series, in the order of their numbers; a fork has its children in parallel.
+-- Strands, and the order of a tree's nodes: in series, in parallel, and depth first. Strands and blocks have their
+-- children in series, in the order of their numbers. A fork has its children in parallel.
 use Rattle.std.specs.Prelude.{ℕ, zero, suc, ◌==◌, ◌&&◌, Bool, not, nat_lt, List, [], ◌∷◌, length, find, filter, unwrap_or}
 use Rattle.std.specs.List.{list_any, flat_map}
 use Rattle.cw_tree.specs.declared.node.Node.{Node}
 use Rattle.cw_tree.specs.Nodes.{parent_of, is_strand, is_fork, is_pending, all_nodes, last_below}
 use Rattle.cw_tree.specs.Walks.{path, is_ancestor, lca}
 
--- the strand in which n stands: the innermost strand on its path
+-- the strand that n is in: the innermost strand on its path
 abbrev pub strand_of : List Node → ℕ → ℕ
 strand_of t n = unwrap_or (find (is_strand t) (path t n)) 0
 
--- where the next node of strand s goes: its innermost pending block that was begun in it, or the strand itself
+-- where the next node of strand s goes: its innermost pending block that was begun in it, otherwise the strand itself
 abbrev pub place : List Node → ℕ → ℕ
 place t s = unwrap_or (last_below (λ n. is_pending t n && (strand_of t n == s)) (length t)) s
 
@@ -34,7 +34,7 @@ parallel t a b = not (is_ancestor t a b) && not (is_ancestor t b a) && is_fork t
 abbrev pub are_ordered : List Node → ℕ → ℕ → Bool
 are_ordered t c d = nat_lt 0 c && nat_lt c d && (parent_of t c == parent_of t d) && not (is_fork t (parent_of t c))
 
--- a is before b: they stand in, or are, two children of one node that are in series
+-- a is before b: they are in two children of one node that are in series, or are these children
 abbrev pub is_before : List Node → ℕ → ℕ → Bool
 is_before t a b = list_any (λ c. list_any (are_ordered t c) (path t b)) (path t a)
 

@@ -1,11 +1,11 @@
--- What is true of the tree of a run: its shape, its stamps, and where its pending blocks stand.
+-- What is true of the tree of a run: its shape, its stamps, and where its pending blocks are.
 use Rattle.std.specs.Prelude.{◌≡◌, ℕ, ◌<◌, ◌&&◌, ◌||◌, Bool, false, not, nat_lt, IsTrue, List, [], ◌∷◌, length}
 use Rattle.cw_tree.specs.declared.node.Node.{Node}
 use Rattle.cw_tree.specs.Nodes.{parent_of, stamp_of, end_of, is_strand, is_fork, is_block, is_pending, is_tried}
 use Rattle.cw_tree.specs.Walks.{is_above, IsRooted}
 use Rattle.cw_tree.specs.Series.{children, is_before}
 
--- strands and blocks have children in series, a fork has a left and a right strand, and nothing else has any
+-- strands and blocks have children in series, a fork has a left and a right strand, and no other node has children
 pub record IsTree (t : List Node) : Type 0 where
   pub some : 0 < length t
   pub rooted : IsRooted t

@@ -1,14 +1,14 @@
--- The victim of an access that is made next, at a place: the place itself may be it.
+-- The victim of an access that is made next, at a place. The victim may be the place itself.
 use Rattle.std.specs.Prelude.{◌≡◌, ℕ, ◌<◌, List, [], ◌∷◌, ◌++◌, length, Option, Some, None}
 use Rattle.cw_tree.specs.declared.node.Node.{Node}
 use Rattle.cw_tree.specs.Walks.{IsRooted, path, outermost, may_fall, victim}
 use Rattle.cw_tree.specs.Worked.{inside, apart}
 
--- of place p and the nodes above it, the outermost pending block that is not above u
+-- the outermost pending block among place p and the nodes above it that is not above u
 abbrev pub victim_at : List Node → ℕ → ℕ → Option ℕ
 victim_at t u p = outermost (may_fall t u) (path t p)
 
--- the victim at a place is the victim of the access, once that is a node
+-- the victim at a place is the victim of the access after it became a node
 abbrev pub VictimsAt : Type 0
 VictimsAt = (t : List Node) (x : Node) (u : ℕ) → IsRooted t → u < length t → x.parent < length t → victim (t ++ x ∷ []) u (length t) ≡ victim_at t u x.parent
 

@@ -1,16 +1,16 @@
--- What stands above a node, and what of it is a block that is still pending.
--- A node is its own ancestor. What stands above it begins with its parent.
+-- What is above a node, and which of it are blocks that are still pending. A node is its own ancestor. What is above it
+-- begins with its parent.
 use Rattle.std.specs.Prelude.{ℕ, zero, suc, ◌<◌, ◌^◌, ◌==◌, ◌&&◌, Bool, false, not, IsTrue, List, [], ◌∷◌, length, drop, Option, Some, None, find, unwrap_or, if◌then◌else◌}
 use Rattle.std.specs.List.{list_any}
 use Rattle.std.specs.Option.{option_or}
 use Rattle.cw_tree.specs.declared.node.Node.{Node}
 use Rattle.cw_tree.specs.Nodes.{parent_of, is_strand, is_pending, is_block}
 
--- each node but the first has a parent with a smaller number
+-- each node except the first has a parent with a smaller number
 abbrev pub IsRooted : List Node → Type 0
 IsRooted t = (n : ℕ) → 0 < n → n < length t → parent_of t n < n
 
--- what is true of every tree: it was numbered from its root, a strand, on
+-- what is true of every tree: it was numbered from its root on, which is a strand
 pub record IsNumbered (t : List Node) : Type 0 where
   pub root : IsTrue (is_strand t 0)
   pub rooted : IsRooted t
@@ -48,11 +48,11 @@ lca t a b = unwrap_or (find (λ m. is_ancestor t m b) (path t a)) 0
 abbrev pub xparent : List Node → ℕ → Option ℕ
 xparent t n = find (is_block t) (above t n)
 
--- the nearest pending block: the first that is met on the way up from n
+-- the nearest pending block: the first on the way up from n
 abbrev pub nua : List Node → ℕ → Option ℕ
 nua t n = find (is_pending t) (above t n)
 
--- an access v conflicts with an earlier one u where u has a nearest pending block and this is no ancestor of v
+-- an access v conflicts with an earlier one u if u has a nearest pending block that is no ancestor of v
 abbrev pub conflict : List Node → ℕ → ℕ → Bool
 conflict t u v =
     bars (nua t u) where
@@ -60,7 +60,7 @@ conflict t u v =
       bars None = false
       bars (Some b) = not (is_ancestor t b v)
 
--- the outermost that passes a test, of nodes that are listed innermost first
+-- the outermost node that passes a test, of nodes that are listed innermost first
 abbrev pub outermost : (ℕ → Bool) → List ℕ → Option ℕ
 outermost p [] = None
 outermost p (n ∷ ns) = option_or (outermost p ns) (if p n then Some n else None)

@@ -38,13 +38,13 @@ apart =
     plain 0 Strand 0 ∷ plain 0 Fork 1 ∷ plain 1 Strand 0 ∷ pending 2 2 ∷ plain 3 (Write 0 (pos 1)) 3 ∷ plain 1 Strand 0 ∷ pending 5 4 ∷ pending 6 5
     ∷ plain 7 (Tried 0) 0 ∷ []
 
--- the same where the writing block was committed
+-- the same after the writing block was committed
 abbrev pub after_commit : List Node
 after_commit =
     plain 0 Strand 0 ∷ plain 0 Fork 1 ∷ plain 1 Strand 0 ∷ committed 2 2 6 ∷ plain 3 (Write 0 (pos 1)) 3 ∷ plain 1 Strand 0 ∷ pending 5 4 ∷ pending 6 5
     ∷ plain 7 (Tried 0) 0 ∷ []
 
--- an access is refused twice, and so is one of another cell; then a block is rolled back twice
+-- an access is refused twice, and then one of another cell; then a block is rolled back twice
 abbrev pub tried_often : List Node
 tried_often =
     plain 0 Strand 0 ∷ plain 0 Fork 1 ∷ plain 1 Strand 0 ∷ plain 2 (Write 0 (pos 1)) 2 ∷ plain 1 Strand 0 ∷ plain 4 (Tried 0) 0 ∷ plain 4 (Tried 0) 0
@@ -57,7 +57,7 @@ left k = record { fork = k; right = false }
 abbrev pub right : ℕ → Turn
 right k = record { fork = k; right = true }
 
--- who stands above whom
+-- which nodes are above which
 abbrev pub Ancestors : Type 0
 Ancestors =
     (path inside 5 ≡ 5 ∷ 4 ∷ 3 ∷ 2 ∷ 1 ∷ 0 ∷ [])
@@ -89,7 +89,7 @@ Conflicts =
     × (nua after_commit 4 ≡ None)
     × (conflict after_commit 4 8 ≡ false)
 
--- a block with a fork was rolled back; its next attempt forks, is committed, and the strand forks again
+-- a block with a fork was rolled back; its next attempt forks and is committed, and the strand forks again
 abbrev pub tried_again : List Node
 tried_again =
     plain 0 Strand 0 ∷ aborted 0 1 3 ∷ plain 1 Fork 2 ∷ plain 2 Strand 0 ∷ plain 2 Strand 0 ∷ committed 0 4 6 ∷ plain 5 Fork 5 ∷ plain 6 Strand 0
@@ -161,7 +161,7 @@ Attempts =
     × (block_attempt tried_again 5 ≡ 2)
     × (block_attempt tried_again 1 ≡ 1)
 
--- where strands stand, and which nodes have a stamp
+-- the places of strands, and which nodes have a stamp
 abbrev pub Places : Type 0
 Places =
     (place tried_often 4 ≡ 12)
@@ -201,7 +201,7 @@ Values =
     × (IsChain inside (5 ∷ 7 ∷ []) → ⊥)
     × IsChain inside (7 ∷ 5 ∷ [])
 
--- the same by stamps; not with a stamp that no access has, or that one of another cell has
+-- the same by stamps; it fails for a stamp that no access has, or that an access of another cell has
 pub record Chains : Type 0 where
   pub holds : IsChainOf tried_often 0 (2 ∷ 3 ∷ 10 ∷ 11 ∷ [])
   pub unknown : IsChainOf tried_often 0 (2 ∷ 99 ∷ []) → ⊥

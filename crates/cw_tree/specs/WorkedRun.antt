@@ -1,5 +1,6 @@
--- A small run: two strands, each with a block that writes one cell. The second strand's inner block is refused, its outer
--- block is rolled back, and both are done again. Each part of what is kept holds of it, and breaks where one thing is changed.
+-- A small run: two strands, each with a block that writes one cell. The second strand's inner block is refused, its
+-- outer block is rolled back, and both are done again. Each part of what is kept holds of it, and fails if one thing is
+-- changed.
 use Rattle.std.specs.Prelude.{ℕ, ℤ, List, [], ◌∷◌, true, false, pos}
 use Rattle.cw_code.specs.declared.Back.{Back}
 use Rattle.cw_tree.specs.declared.node.Node.{Node}
@@ -70,9 +71,10 @@ pub record Breaks : Type 0 where
 abbrev pub had : ℕ → ℤ → Back
 had n v = record { cell = n; value = v }
 
--- Cell 1 is written before the block, read in it and written again. A strand in it writes cell 0 in a block; another writes cell 2 in a block
--- that is rolled back, and cell 0, which it is refused at first, when it does the block again, and reads cell 3. The block is given up, with
--- this list, and then writes cells 0, 1 and 3.
+-- Cell 1 is written before the block, read in it and written again. A strand in the block writes cell 0 in a block of
+-- its own. Another strand writes cell 2 in a block that is rolled back. When it does that block again, it writes cell
+-- 0, which was refused at first, and reads cell 3. The outer block is given up, with the list `back`, and then writes
+-- cells 0, 1 and 3.
 abbrev pub given_up : List Back → List Node
 given_up back =
     plain 0 Strand 0 ∷ plain 0 (Write 1 (pos 5)) 1 ∷ committed 0 2 20 ∷ plain 2 (Read 1 (pos 5)) 3 ∷ plain 2 Fork 4 ∷ plain 4 Strand 0
@@ -83,15 +85,15 @@ given_up back =
 abbrev pub one_to_four : List ℤ
 one_to_four = pos 1 ∷ pos 2 ∷ pos 3 ∷ pos 4 ∷ []
 
--- a cancel right in a strand, and one in a block that is rolled back
+-- a cancel directly in a strand, and one in a block that is rolled back
 abbrev pub no_block : List Node
 no_block = plain 0 Strand 0 ∷ plain 0 (Cancel []) 1 ∷ []
 
 abbrev pub rolled_back : List Node
 rolled_back = plain 0 Strand 0 ∷ aborted 0 1 3 ∷ plain 1 (Cancel (had 2 (pos 5) ∷ [])) 2 ∷ []
 
--- It puts back what its strands wrote, and not what was only read, was rolled back or comes after the cancel. Each value is from before the
--- block's first access, a read or a write.
+-- The block puts back what its strands wrote, and not what was only read, was rolled back or comes after the cancel.
+-- Each value is from before the block's first access, a read or a write.
 pub record GivenUp : Type 0 where
   pub right : AreCancels (given_up (had 0 (pos 1) ∷ had 1 (pos 5) ∷ [])) one_to_four
   pub first_value : AreCancels (given_up (had 0 (pos 1) ∷ had 1 (pos 2) ∷ [])) one_to_four → ⊥
@@ -104,5 +106,5 @@ pub record GivenUp : Type 0 where
   pub read_too : AreCancels (given_up (had 0 (pos 1) ∷ had 1 (pos 5) ∷ had 3 (pos 4) ∷ [])) one_to_four → ⊥
   pub exchanged : AreCancels (given_up (had 1 (pos 5) ∷ had 0 (pos 1) ∷ [])) one_to_four → ⊥
   pub outside : AreCancels no_block one_to_four → ⊥
-  -- nothing is asked of one that was rolled back
+  -- nothing is asked of a cancel that was rolled back
   pub dead : AreCancels rolled_back one_to_four

@@ -14,7 +14,7 @@ pub enum Halt {
     Memory,
 }
 
-/// What a run leaves: its tree, the live accesses of each cell, its refused accesses, and why it stopped, if it did.
+/// What a run leaves: its tree, the live accesses of each cell, its refused accesses, and why it stopped early, if it did.
 #[derive(Drop)]
 pub struct Closed {
     pub tree: Tree,
@@ -23,7 +23,7 @@ pub struct Closed {
     pub halt: Option<Halt>,
 }
 
-/// What names nodes: the tree, the conflicts, and why a run stopped.
+/// The parts that name nodes: the tree, the conflicts, and why a run stopped.
 #[derive(Drop)]
 struct Naming {
     tree: Tree,
@@ -32,7 +32,8 @@ struct Naming {
 }
 
 impl Closed {
-    /// The same with the tree's nodes numbered depth first, and the conflicts as the tree lists their askers.
+    /// Numbers the nodes of the tree depth first, and orders the conflicts as the tree lists their askers. After an
+    /// `Err` nothing has changed.
     pub fn in_order(self) -> Result<Closed, (Closed, OutOfMemory)>
         ensures tree { IfOk result (λ c. c.tree ≡ in_order self.tree) }
         ensures journals { IfOk result (λ c. c.journals ≡ self.journals) }

@@ -1,8 +1,9 @@
 use cw_base::Seq;
 
-/// A refused access of a cell. Accesses and blocks are named by their stamps: the last access of the cell, a pending block that
-/// stood in the way, and the block that has to roll back, or 0 where there is none. `asker` is the node of the refused access,
-/// `attempt` says which attempt was refused, and `chain` has the newest live accesses of the cell, at most eight, oldest first.
+/// A refused access of a cell. Accesses and blocks are named by their stamps. `last` is the last access of the cell,
+/// `block` a pending block that stood in the way, and `victim` the block that has to roll back, or 0 if there is none.
+/// `asker` is the node of the refused access, `attempt` says which attempt was refused, and `chain` has the newest live
+/// accesses of the cell, at most eight, oldest first.
 #[derive(Drop)]
 pub struct Conflict {
     pub cell: u32,

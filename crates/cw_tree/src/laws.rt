@@ -4,7 +4,7 @@ ghost use Rattle.cw_tree.specs.OneTree.{OneList, OneNumber, OneTree, OneTreeRows
 ghost use Rattle.cw_tree.specs.OrderLaws.{AncestorsStay, NodesStay, NumberedDepthFirst, NumbersDiffer, SeriesStay, SiblingsStay, SoundStays, TreesStay};
 ghost use Rattle.cw_tree.specs.VictimsAt.{VictimsAt, VictimsGrow, VictimRows};
 
-/// An access that is made next at a place: with what it conflicts, and what stays of that as others act.
+/// What an access that is made next at a place conflicts with, and what stays of that as others act.
 pub fn conflicts_at_places()
     ensures place { ConflictsAt }
     ensures grow { ConflictsGrow }
@@ -20,8 +20,8 @@ pub fn victims_at_places()
     ensures rows { VictimRows }
 {}
 
-/// A chain stays one as nodes are added and blocks are closed, and as an access comes that does not conflict with the newest; its
-/// parts are chains; and what is beneath a pending block is its end.
+/// A chain stays a chain as nodes are added and blocks are closed, and when an access follows that does not conflict
+/// with the newest. Its parts are chains. The accesses beneath a pending block are its end.
 pub fn chains_stay()
     ensures grow { ChainsGrow }
     ensures close { ChainsClose }
@@ -32,7 +32,7 @@ pub fn chains_stay()
     ensures beneath { BeneathIsEnd }
 {}
 
-/// The same of accesses that are named by their stamps.
+/// The same for accesses that are named by their stamps.
 pub fn chains_by_stamps()
     ensures grow { StampsGrow }
     ensures close { StampsClose }
@@ -45,7 +45,8 @@ pub fn chains_by_stamps()
     ensures conflicts_close { StampConflictsClose }
 {}
 
-/// Accesses of a cell go with their entries as nodes are added and blocks are closed, and so do the oldest of them; an entry tells what its access wrote, and when.
+/// Accesses of a cell keep their entries as nodes are added and blocks are closed, and so do the oldest of them. An
+/// entry tells what its access wrote, and when.
 pub fn stacks_stay()
     ensures grow { StacksGrow }
     ensures close { StacksClose }
@@ -73,8 +74,8 @@ pub fn orders_rename()
     ensures sound { SoundStays }
 {}
 
-/// Two trees that differ in the numbers of their nodes alone are one tree in depth-first order, with one list of conflicts; and what that says
-/// of a small one.
+/// Two trees that differ only in the numbers of their nodes are one tree in depth-first order, with one list of
+/// conflicts. The rows say so of a small one.
 pub fn trees_are_one()
     ensures tree { OneTree }
     ensures number { OneNumber }

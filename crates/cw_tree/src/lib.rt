@@ -1,13 +1,13 @@
-//! The computation tree of a run: what a node is, who stands above whom, which block is still pending, who conflicts with whom, and
-//! what strands are called.
-//! Stands on `cw_base` and `cw_code`.
-//! Contracts cite `specs/Nodes.antt` (nodes), `specs/Walks.antt` (what stands above a node), `specs/Names.antt` (names of strands) and
-//! `specs/ForkCounts.antt` (how forks are counted). `Series`, `Attempts`, `Accesses`, `Shape`, `Journals`, `Cancels`, `Refusals` and
-//! `Histories` there hold what the layers above say of a tree, its accesses, its cancels and its conflicts, and `AccessStacks` the accesses of
-//! a cell with their entries; `Laws` and `ChainLaws` are laws on them, `VictimsAt` says who falls for an access at a place, `NextNodes` where a node may
-//! be made next and with which stamp, `Newest` which accesses are newest, `InOrder` what a tree, its conflicts and its end are with the
-//! nodes numbered depth first, of which `OrderLaws` are laws, `OneTree` when two trees are one but for the numbers of their nodes,
-//! `Worked` and `WorkedRun` try them.
+//! The computation tree of a run: what a node is, what is above it, which blocks are still pending, which accesses
+//! conflict, and what strands are called. Use it for whatever records or checks a run.
+//! Contracts cite `specs/Nodes.antt` (nodes), `specs/Walks.antt` (what is above a node), `specs/Names.antt` (names of
+//! strands) and `specs/ForkCounts.antt` (how forks are counted). `Series`, `Attempts`, `Accesses`, `Shape`, `Journals`,
+//! `Cancels`, `Refusals` and `Histories` have what the layers above say of a tree, its accesses, its cancels and its
+//! conflicts. `AccessStacks` has the accesses of a cell with their entries, `VictimsAt` the victim of an access at a
+//! place, `NextNodes` where a node may be made next and with which stamp, `Newest` which accesses are newest. `InOrder`
+//! has a tree, its conflicts and its end with the nodes numbered depth first, `OneTree` when two trees are one except
+//! for the numbers of their nodes. `Laws`, `ChainLaws` and `OrderLaws` are laws on them, `Worked` and `WorkedRun` try
+//! them.
 #![tactic(auto)]
 
 ghost use Rattle.cw_tree.specs.Laws.{SeriesOrParallel};
@@ -33,7 +33,7 @@ pub use node::{BlockState, Kind, Node};
 pub use picks::{Name, Picks, Turn};
 pub use tree::Tree;
 
-/// Of two nodes of which neither is an ancestor of the other, one is before the other or they are parallel.
+/// If neither of two nodes is an ancestor of the other, one is before the other or they are parallel.
 pub fn series_or_parallel()
     ensures { SeriesOrParallel }
 {}
@@ -51,8 +51,8 @@ pub fn worked_trees()
     ensures chains { Chains }
 {}
 
-/// What is kept of a small run meets all that is said of it, and does not where one thing is changed; and what a block that is given up puts
-/// back is told, and nothing else is.
+/// All that is said of what a run leaves holds of a small run, and fails if one thing is changed. A cancel tells what
+/// its block puts back, and nothing else.
 pub fn worked_run()
     ensures holds { AllHold }
     ensures stops { Stops }

@@ -24,8 +24,8 @@ pub enum BlockState {
     Aborted,
 }
 
-/// A node of the tree: the number of its parent, what it is, the stamp at which it was made, or 0 where it has none, and for a
-/// closed block the stamp of its end.
+/// A node of the tree: the number of its parent, what it is, the stamp at which it was made, or 0 if it has none, and
+/// for a closed block the stamp of its end.
 #[derive(Drop)]
 pub struct Node {
     pub parent: u32,

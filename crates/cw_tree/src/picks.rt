@@ -1,7 +1,7 @@
 use cw_base::Seq;
 
-/// A strand by the fork that started it: the number of the strand that forked, which fork of that strand it was, counted from 1,
-/// and whether it is the right strand of it. The root is `Name { parent: 0, fork: 0, right: false }`.
+/// A strand by the fork that started it: the number of the strand that forked, which fork of that strand it was,
+/// counted from 1, and whether it is the right strand of it. The root is `Name { parent: 0, fork: 0, right: false }`.
 #[derive(Clone, Copy, PartialEq, Eq, Debug)]
 pub struct Name {
     pub parent: u32,
@@ -16,8 +16,8 @@ pub struct Turn {
     pub right: bool,
 }
 
-/// An order: the strands that it names, of which number 0 is the root, the numbers of the strands to pick one after another, and
-/// the strand that it ends with.
+/// An order: the strands that it names, of which number 0 is the root, the numbers of the strands to pick one after
+/// another, and the strand that it ends with.
 #[derive(Drop)]
 pub struct Picks {
     pub names: Seq<Name>,

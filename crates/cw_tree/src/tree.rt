@@ -33,7 +33,7 @@ impl Model for Tree {
 impl Tree {
     ghost use Rattle.cw_tree.specs.declared.node.Kind.TheVariants.{Strand};
 
-    /// The tree of the root strand alone.
+    /// Returns the tree of the root strand alone.
     pub fn new(alloc: Global) -> Result<Tree, OutOfMemory>
         ensures { IfOk result (λ t. t ≡ fresh_node 0 Strand 0 ∷ []) }
     {
@@ -56,7 +56,7 @@ impl Tree {
         self.nodes.as_slice()
     }
 
-    /// The node with a number.
+    /// The node with the number `n`.
     pub fn node(&self, n: u32) -> &Node
         requires { n < length self.now }
         ensures { slice_get self.now n ≡ Some result.now }
@@ -111,13 +111,13 @@ impl Tree {
         self.is_block(n) && matches!(self.node(n).state, BlockState::Aborted)
     }
 
-    /// Adds a node beneath a parent, and answers its number.
+    /// Adds a node beneath `parent` and returns its number.
     pub fn add(&mut self, parent: u32, kind: Kind, stamp: u64) -> Result<u32, OutOfMemory>
         requires { parent < length self.old }
         ensures number { IfOk result (λ n. n ≡ length self.old) }
         ensures ok { OnOk result (self.new ≡ self.old ++ fresh_node parent kind stamp ∷ []) }
         ensures err { OnErr result (self.new ≡ self.old) }
-        // there are 2 ^ 32 - 1 places
+        // A tree has room for 2 ^ 32 - 1 nodes.
         ensures full { length self.old ≡ 2 ^ 32 - 1 → IsErr result }
     {
         let number = self.nodes.len();
@@ -138,7 +138,8 @@ impl Tree {
         Ok(number as u32)
     }
 
-    /// Adds a fork beneath a parent, with its left and its right strand, or nothing. Answers the number of the fork.
+    /// Adds a fork beneath `parent` with its left and its right strand, and returns the number of the fork. After an
+    /// `Err` nothing was added.
     pub fn fork(&mut self, parent: u32, stamp: u64) -> Result<u32, OutOfMemory>
         requires { parent < length self.old }
         ensures number { IfOk result (λ n. n ≡ length self.old) }
@@ -159,7 +160,7 @@ impl Tree {
         Ok(fork)
     }
 
-    /// Closes a block: how it ended, and the stamp of its end.
+    /// Closes a block: `state` says how it ended, `end` is the stamp of its end.
     pub fn close(&mut self, block: u32, state: BlockState, end: u64)
         requires { IsTrue (is_block self.old block) }
         ensures { self.new ≡ closed self.old block state end }

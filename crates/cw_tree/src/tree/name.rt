@@ -8,7 +8,7 @@ use cw_base::OutOfMemory;
 use std::fmt::Write;
 
 impl Tree {
-    /// The name of a strand: `0` for the root, and `.kl` or `.kr` for each step down to the left or right strand of a k-th fork.
+    /// Returns the name of a strand: `0` for the root, and `.kl` or `.kr` for each step down to the left or right strand of a k-th fork.
     pub fn name(&self, strand: u32) -> Result<String, OutOfMemory>
         requires there { strand < length self.now }
         requires strand { IsTrue (is_strand self.now strand) }
@@ -23,7 +23,7 @@ impl Tree {
         Ok(text)
     }
 
-    /// The steps from the root down to a strand.
+    /// Returns the steps from the root down to a strand.
     pub fn turns(&self, strand: u32) -> Result<Vec<Turn>, OutOfMemory>
         requires { strand < length self.now }
         ensures { IfOk result (λ turns. turns.items ≡ name_of self.now strand) }
@@ -46,7 +46,7 @@ impl Tree {
         Ok(turns)
     }
 
-    /// For each node the number that a fork in its place has in its strand.
+    /// For each node, returns the number that a fork in its place has in its strand.
     pub fn fork_numbers(&self) -> Result<Vec<u32>, OutOfMemory>
         ensures { IfOk result (λ numbers. numbers.items ≡ map (fork_number self.now) (all_nodes self.now)) }
     {
@@ -54,7 +54,7 @@ impl Tree {
         let alloc = *self.nodes.allocator();
         let count = self.nodes().len();
         let mut numbers = vec![in alloc; 1u32; count]?;
-        // the forks in a node's children so far
+        // the forks among a node's children so far
         let mut passed = vec![in alloc; 0u32; count]?;
         for n in 1..count as u32 {
             let parent = self.parent(n) as usize;
@@ -64,7 +64,7 @@ impl Tree {
         Ok(numbers)
     }
 
-    // The number at a node, from the number at its parent and how many forks its earlier siblings have.
+    // The number at a node, from the number at its parent and the number of forks in its earlier siblings.
     fn number_at(&self, n: u32, at_parent: u32, in_siblings: u32) -> u32
         requires there { n < length self.now }
         requires child { 0 < n }
@@ -80,7 +80,7 @@ impl Tree {
         }
     }
 
-    // For each node but the root, how many forks count at what follows it in its strand.
+    // For each node except the root, returns how many forks count at what follows it in its strand.
     fn forks_inside(&self) -> Result<Vec<u32>, OutOfMemory>
         ensures len { IfOk result (λ inside. length inside.items ≡ length self.now) }
         ensures forks { IfOk result (λ inside. (c : ℕ) → 0 < c → c < length self.now → slice_index inside.items c ≡ forks_after self.now c) }
@@ -98,7 +98,7 @@ impl Tree {
         Ok(inside)
     }
 
-    // How many forks count at what follows a node, where so many stand in its children.
+    // How many forks count at what follows a node that has `in_children` forks in its children.
     fn forks_at(&self, n: u32, in_children: u32) -> u32
         requires there { n < length self.now }
         requires fits { in_children + 1 < 2 ^ 32 }
@@ -113,7 +113,7 @@ impl Tree {
         }
     }
 
-    /// For each node whether an earlier strand has the same parent.
+    /// For each node, returns whether an earlier strand has the same parent.
     pub fn right_strands(&self) -> Result<Vec<bool>, OutOfMemory>
         ensures { IfOk result (λ sides. sides.items ≡ map (is_right self.now) (all_nodes self.now)) }
     {

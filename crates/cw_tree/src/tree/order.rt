@@ -32,7 +32,7 @@ impl Family {
         Ok(Family { last, before })
     }
 
-    // Puts a node's children on a stack, the first one last.
+    // Pushes a node's children on a stack, the first one last.
     fn push_children(&self, tree: &Tree, n: u32, stack: &mut Vec<u32>) -> Result<(), OutOfMemory>
         requires there { n < length tree.now }
         requires last { self.now.last.items ≡ map (last_child tree.now) (all_nodes tree.now) }
@@ -50,7 +50,7 @@ impl Family {
 
 // Each call takes memory and steps for each node of the tree, however deep it is.
 impl Tree {
-    /// The nodes, depth first.
+    /// Returns the nodes, depth first.
     pub fn depth_first(&self) -> Result<Vec<u32>, OutOfMemory>
         ensures { IfOk result (λ order. order.items ≡ depth_first self.now) }
     {
@@ -59,7 +59,7 @@ impl Tree {
         let alloc = *self.nodes.allocator();
         let family = Family::of_tree(self)?;
         let mut order = Vec::new(alloc);
-        // the nodes to come to, the next one last
+        // the nodes that are still to be visited, the next one last
         let mut stack = Vec::new(alloc);
         stack.push(0)?;
         while let Some(n) = stack.pop() {
@@ -69,7 +69,7 @@ impl Tree {
         Ok(order)
     }
 
-    /// The tree with its nodes numbered depth first, and for each node its new number.
+    /// Returns the tree with its nodes numbered depth first, and for each node its new number.
     pub fn in_order(&self) -> Result<(Tree, Vec<u32>), OutOfMemory>
         ensures tree { IfOk result (λ r. r.0 ≡ in_order self.now) }
         ensures numbers { IfOk result (λ r. r.1.items ≡ map (renamed self.now) (all_nodes self.now)) }
@@ -85,7 +85,7 @@ impl Tree {
         Ok((Tree { nodes }, numbers))
     }
 
-    // For each node its place in depth-first order.
+    // For each node, returns its position in depth-first order.
     fn numbers(&self, order: &[u32]) -> Result<Vec<u32>, OutOfMemory>
         requires { order.now ≡ depth_first self.now }
         ensures { IfOk result (λ numbers. numbers.items ≡ map (renamed self.now) (all_nodes self.now)) }
@@ -99,7 +99,7 @@ impl Tree {
         Ok(numbers)
     }
 
-    // The new number of a node, by those of all nodes. What is no node comes after them all.
+    // The new number of node `n`, given those of all nodes. A number that is no node comes after them all.
     pub(crate) fn renamed(&self, numbers: &[u32], n: u32) -> u32
         requires { numbers.now ≡ map (renamed self.now) (all_nodes self.now) }
         ensures { result ≡ renamed self.now n }
@@ -114,7 +114,7 @@ impl Tree {
         }
     }
 
-    // A node as it stands in the tree that is numbered anew.
+    // Node `n` as it is in the tree with new numbers.
     fn renamed_node(&self, numbers: &[u32], n: u32) -> Result<Node, OutOfMemory>
         requires there { n < length self.now }
         requires numbers { numbers.now ≡ map (renamed self.now) (all_nodes self.now) }
@@ -131,7 +131,7 @@ impl Tree {
     }
 }
 
-// The same kind.
+// Returns a copy of `kind`.
 fn copied(alloc: Global, kind: &Kind) -> Result<Kind, OutOfMemory>
     ensures { IfOk result (λ k. k ≡ kind.now) }
 {

@@ -91,7 +91,7 @@ impl Tree {
         let mut at = v;
         while at != meet {
             at = self.parent(at);
-            // what stands above the least common ancestor stands above both
+            // what is above the least common ancestor is above both
             if (at != meet || at == u) && self.is_pending(at) {
                 found = Some(at);
             }
