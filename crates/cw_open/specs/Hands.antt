@@ -1,5 +1,5 @@
--- Runs in which several strands go on: what the steps of others leave of a strand, and of what it has drawn. The laws are over runs in which
--- an access may be refused at any time, whatever is said of it.
+-- Runs in which several strands go on: what the steps of others leave of a strand, and of what it has drawn. The laws
+-- are over runs in which an access may be refused at any time, whatever is said of it.
 use Rattle.std.specs.Prelude.{◌≡◌, ◌≢◌, ◌⊎◌, ℕ, ℤ, ◌<◌, ◌≤◌, ◌==◌, ◌&&◌, Bool, false, not, IsTrue, List, [], ◌∷◌, length, filter, Option}
 use Rattle.cw_tree.specs.declared.node.Node.{Node}
 use Rattle.cw_tree.specs.Nodes.{parent_of, is_fork, is_pending, all_nodes}
@@ -16,7 +16,7 @@ use Rattle.cw_open.specs.Refused.{IsNewest}
 
 -- ## Steps of others
 
--- the step is one of strand s: a stop is its strand's, and a join is none's
+-- the step is one of strand s; a stop is its strand's step, and a join is no strand's
 abbrev pub is_step_of : ℕ → Step → Bool
 is_step_of s (forks u stamp) = u == s
 is_step_of s (begins u stamp) = u == s
@@ -53,7 +53,7 @@ OfEachOther P = OfEachStep (λ m e. (s : ℕ) → IsTrue (is_running m s) → is
 
 -- ## Places
 
--- two strands that run stand in parallel
+-- the places of two strands that run are in parallel
 abbrev pub PlacesPart : Type 0
 PlacesPart = OfEachState (λ first m. (s u : ℕ) → IsTrue (is_running m s) → IsTrue (is_running m u) → s ≢ u → IsTrue (parallel m.tree (place m.tree s) (place m.tree u)))
 
@@ -61,7 +61,7 @@ PlacesPart = OfEachState (λ first m. (s u : ℕ) → IsTrue (is_running m s) �
 abbrev pub begun_in : List Node → ℕ → List ℕ
 begun_in t s = filter (λ n. is_pending t n && (strand_of t n == s)) (all_nodes t)
 
--- strand s runs in state k, and stands there as in state m
+-- strand s runs in state k, and is there as in state m
 pub record IsLeftAlone (m k : OpenMachine) (s : ℕ) : Type 0 where
   pub running : IsTrue (is_running k s)
   pub place : place k.tree s ≡ place m.tree s
@@ -69,11 +69,11 @@ pub record IsLeftAlone (m k : OpenMachine) (s : ℕ) : Type 0 where
   pub free : is_free k s ≡ is_free m s
   pub rolls_back : rolls_back k s ≡ rolls_back m s
 
--- a step of another leaves a strand alone
+-- a step of another strand leaves a strand alone
 abbrev pub OthersLeaveAlone : Type 0
 OthersLeaveAlone = OfEachOther (λ m e s. IsLeftAlone m (after_open_step m e) s)
 
--- each node beneath the place of a strand is of that strand, or beneath a fork that it made there and that was joined
+-- each node beneath the place of a strand is of that strand, or beneath a fork that the strand made there and that was joined
 abbrev pub BeneathIsOwn : Type 0
 BeneathIsOwn =
     OfEachState (λ first m. (s n : ℕ) → IsTrue (is_running m s) → n < length m.tree → IsTrue (is_above m.tree (place m.tree s) n)
@@ -86,37 +86,37 @@ abbrev pub NextStampsStay : Type 0
 NextStampsStay =
     OfEachOther (λ m e s. (stamp : ℕ) → brought e ≢ stamp → IsNextStamp m.tree (place m.tree s) stamp → IsNextStamp (after_open_step m e).tree (place (after_open_step m e).tree s) stamp)
 
--- what was drawn in time there still was
+-- what was drawn in time there is still drawn in time
 abbrev pub DrawnStay : Type 0
 DrawnStay =
     OfEachOther (λ m e s. (times : ℕ → ℕ) (stamp : ℕ) → IsDrawn times m.tree (place m.tree s) stamp
     → IsDrawn (times_after times m e) (after_open_step m e).tree (place (after_open_step m e).tree s) stamp)
 
--- what may be the end of the block in which a strand stands still may be
+-- what may be the end of the block that a strand is in still may be
 abbrev pub EndStampsStay : Type 0
 EndStampsStay =
     OfEachOther (λ m e s. (stamp : ℕ) → brought e ≢ stamp → IsEndStamp m.tree (place m.tree s) stamp → IsEndStamp (after_open_step m e).tree (place (after_open_step m e).tree s) stamp)
 
 -- ## What an access met
 
--- no step makes an access at a place conflict with one with which it did not
+-- no step makes an access at a place conflict with one that it did not conflict with
 abbrev pub NoneConflictsMore : Type 0
 NoneConflictsMore = OfEachStep (λ m e. (u p : ℕ) → u < length m.tree → p < length m.tree → conflict_at m.tree u p ≡ false → conflict_at (after_open_step m e).tree u p ≡ false)
 
--- what a strand met stays as a conflict tells it, whatever others do, and so do the newest accesses that it is told with
+-- what a strand met stays as a conflict tells it, whatever others do; so do the newest accesses that the conflict tells
 abbrev pub MetStays : Type 0
 MetStays = OfEachOther (λ m e s. (c : ℕ) (met : Met) → IsMet m.tree (place m.tree s) c met → IsMet (after_open_step m e).tree (place (after_open_step m e).tree s) c met)
 
 abbrev pub NewestStay : Type 0
 NewestStay = OfEachOther (λ m e s. (c : ℕ) (met : Met) → IsNewest m.tree c met → IsNewest (after_open_step m e).tree c met)
 
--- and it was met in time
+-- what a strand met stays met in time
 abbrev pub MetInTimeStays : Type 0
 MetInTimeStays =
     OfEachOther (λ m e s. (times : ℕ → ℕ) (met : Met) → IsMetInTime times m.tree (place m.tree s) met
     → IsMetInTime (times_after times m e) (after_open_step m e).tree (place (after_open_step m e).tree s) met)
 
--- where the newest access of a cell conflicts, and a pending block stands in the way, that is as a conflict tells it
+-- if the newest access of a cell conflicts, and a pending block stands in the way, a conflict can tell this
 abbrev pub ConflictsAreTold : Type 0
 ConflictsAreTold = OfEachState (λ first m. (s c : ℕ) (met : Met) → IsTrue (is_running m s) → IsRefused m s c met → IsMet m.tree (place m.tree s) c met × IsNewest m.tree c met)
 
@@ -127,7 +127,7 @@ abbrev pub times_after_all : (ℕ → ℕ) → OpenMachine → List Step → ℕ
 times_after_all times m [] = times
 times_after_all times m (e ∷ es) = times_after_all (times_after times m e) (after_open_step m e) es
 
--- a run whose stamps were drawn in time leads to this state, and its nodes were made, or closed, at these times
+-- a run whose stamps were drawn in time leads to the state m, and its nodes were made, or closed, at these times
 pub record RunsTo (r : Rules) (first : List ℤ) (m : OpenMachine) (times : ℕ → ℕ) : Type 0 where
   pub steps : List Step
   pub run : IsRun r (first_machine first) steps
@@ -135,7 +135,7 @@ pub record RunsTo (r : Rules) (first : List ℤ) (m : OpenMachine) (times : ℕ 
   pub timely : AreTimely (λ n. 0) (first_machine first) steps
   pub timed : times_after_all (λ n. 0) (first_machine first) steps ≡ times
 
--- what is reached so is what is reached in time, and is reached where accesses may be refused at any time
+-- what is reached with times is what is reached in time, and is reached if accesses may be refused at any time
 pub record IsInTime (r : Rules) (first : List ℤ) (m : OpenMachine) : Type 0 where
   pub reached : (times : ℕ → ℕ) → RunsTo r first m times → ReachedInTime r first m
   pub timed : ReachedInTime r first m → (times : ℕ → ℕ) × RunsTo r first m times
@@ -144,7 +144,7 @@ pub record IsInTime (r : Rules) (first : List ℤ) (m : OpenMachine) : Type 0 wh
 abbrev pub RunsAreInTime : Rules → Type 0
 RunsAreInTime r = (first : List ℤ) (m : OpenMachine) → IsInTime r first m
 
--- so the laws on steps are of what a rule allows, whatever it asks of a refusal
+-- the laws on steps apply to all that a rule allows, whatever it asks of a refusal
 abbrev pub AllowedAtAnyTime : Rules → Type 0
 AllowedAtAnyTime r = (m : OpenMachine) (e : Step) → Allowed r m e → Allowed (at_any_time r.asked) m e
 
@@ -152,7 +152,7 @@ AllowedAtAnyTime r = (m : OpenMachine) (e : Step) → Allowed r m e → Allowed 
 abbrev pub RunsBegin : Rules → Type 0
 RunsBegin r = (first : List ℤ) → RunsTo r first (first_machine first) (λ n. 0)
 
--- it goes on by a step that is allowed and in time
+-- a run goes on by a step that is allowed and in time
 abbrev pub RunsGoOn : Rules → Type 0
 RunsGoOn r =
     (first : List ℤ) (m : OpenMachine) (times : ℕ → ℕ) (e : Step) → RunsTo r first m times → Allowed r m e → IsTimely times m e
@@ -178,19 +178,20 @@ AheadIsNext r =
 abbrev pub join_steps : (f l r : ℕ) → (left_dead right_dead : Bool) → List Step
 join_steps f l r left_dead right_dead = finishes l left_dead ∷ finishes r right_dead ∷ joins f ∷ []
 
--- both strands of an open fork run, and stand at themselves
+-- both strands of an open fork run, and are in no block of their own
 pub record HaveCome (m : OpenMachine) (f l r : ℕ) : Type 0 where
   pub fork : IsTrue (is_fork m.tree f && not (has m.joined f))
   pub strands : children m.tree f ≡ l ∷ r ∷ []
   pub left : IsTrue (is_running m l && not (in_block m l))
   pub right : IsTrue (is_running m r && not (in_block m r))
 
--- the strand that made fork f waits for that alone, and did not stop
+-- the strand that made fork f waits only for it, and did not stop
 pub record WaitsForAlone (m : OpenMachine) (f : ℕ) : Type 0 where
   pub alone : (g : ℕ) → IsTrue (is_fork m.tree g) → strand_of m.tree g ≡ strand_of m.tree f → g ≢ f → IsTrue (has m.joined g)
   pub unstopped : has m.stopped (strand_of m.tree f) ≡ false
 
--- strands that have come may finish, dead where they are dying, and then their fork may be joined; and so it may however they may finish
+-- The strands may finish, dead if they are dying, and then their fork may be joined. Their fork may also be joined
+-- after any other way in which they may finish.
 pub record MayFinishAndJoin (r : Rules) (m : OpenMachine) (f left right : ℕ) : Type 0 where
   pub as_dying : IsRun r m (join_steps f left right (is_dying m left) (is_dying m right))
   pub either : (left_dead right_dead : Bool) → Allowed r m (finishes left left_dead) → Allowed r (after_open_step m (finishes left left_dead)) (finishes right right_dead)
@@ -206,13 +207,13 @@ pub record RunsAgain (m k : OpenMachine) (s p : ℕ) : Type 0 where
   pub place : place k.tree s ≡ p
   pub begun : begun_in k.tree s ≡ begun_in m.tree s
 
--- after that the strand that forked runs again, where it forked
+-- after the join the strand that forked runs again, where it forked
 abbrev pub ForkersRunAgain : Type 0
 ForkersRunAgain =
     OfEachState (λ first m. (f l r : ℕ) (left_dead right_dead : Bool) → HaveCome m f l r → WaitsForAlone m f
     → RunsAgain m (after_all m (join_steps f l r left_dead right_dead)) (strand_of m.tree f) (parent_of m.tree f))
 
--- and others are left alone
+-- a join leaves others alone
 abbrev pub JoinsLeaveAlone : Type 0
 JoinsLeaveAlone =
     OfEachState (λ first m. (f l r s : ℕ) (left_dead right_dead : Bool) → s ≢ l → s ≢ r → IsTrue (is_running m s) → IsLeftAlone m (after_all m (join_steps f l r left_dead right_dead)) s)

@@ -1,5 +1,5 @@
--- What is true of every state that a run leads to. The laws are over runs in which an access may be refused at any time, whatever is said of
--- it: every run of a machine that asks more of that is one of these.
+-- What is true of every state that a run leads to. The laws are over runs in which an access may be refused at any
+-- time, whatever is said of it. Every run of a machine that asks more of a refusal is such a run.
 use Rattle.std.specs.Prelude.{◌≡◌, ℕ, ℤ, ◌<◌, ◌≤◌, ◌⊎◌, ◌&&◌, false, IsTrue, All, List, length, map, Option}
 use Rattle.std.specs.List.Sorted.{IsStrictlyIncreasing}
 use Rattle.cw_tree.specs.declared.node.Node.{Node}
@@ -23,17 +23,17 @@ use Rattle.cw_open.specs.Open.{is_open, AreNested}
 abbrev pub OfEachState : (List ℤ → OpenMachine → Type 0) → Type 0
 OfEachState P = (asked : List Node → List ℕ → Option ℤ → List ℕ) (first : List ℤ) (m : OpenMachine) → IsReachedBy (at_any_time asked) first m → P first m
 
--- the same where one may conflict with the newest access alone
+-- the same if an access may conflict only with the newest one
 abbrev pub OfEachWithNewest : (List ℤ → OpenMachine → Type 0) → Type 0
 OfEachWithNewest P = (first : List ℤ) (m : OpenMachine) → IsReachedBy (at_any_time (λ t us w. newest us)) first m → P first m
 
 -- ## The tree
 
--- it is a computation tree, its stamps differ and rise along it, and nothing comes after a pending block
+-- the tree is a computation tree, its stamps differ and rise along it, and nothing comes after a pending block
 abbrev pub TreesAreSound : Type 0
 TreesAreSound = OfEachState (λ first m. IsSound m.tree)
 
--- open nodes stand in open ones, one in each at most, and the last
+-- open nodes are in open ones, at most one in each, and as its last
 abbrev pub OpenAreNested : Type 0
 OpenAreNested = OfEachState (λ first m. AreNested m.tree (is_open m))
 
@@ -47,18 +47,18 @@ ClocksAreLatest = OfEachState (λ first m. (n : ℕ) → n < length m.tree → (
 
 -- ## The lists
 
--- there is one for each cell, and each access is of a cell
+-- there is one list for each cell, and each access is of a cell
 abbrev pub CellsFit : Type 0
 CellsFit = OfEachState (λ first m. (m.first ≡ first) × (length m.lists ≡ length first) × FitsCells m.tree (length first))
 
--- each cancel puts back cells that are there, rolled back or not
+-- each cancel puts back existing cells, rolled back or not
 abbrev pub CancelsNameCells : Type 0
 CancelsNameCells = OfEachState (λ first m. NamesCells m.tree (length first))
 
 abbrev pub ListsRise : Type 0
 ListsRise = OfEachState (λ first m. (c : ℕ) → IsStrictlyIncreasing (live m c))
 
--- a list has accesses of its cell alone, and live ones
+-- a list contains only live accesses of its cell
 abbrev pub ListsAreLive : Type 0
 ListsAreLive = OfEachState (λ first m. (c s : ℕ) → IsTrue (has (live m c) s) → (n : ℕ) × IsTrue (touches m.tree c n) × (stamp_of m.tree n ≡ s) × IsTrue (is_live m.tree n))
 
@@ -66,7 +66,7 @@ ListsAreLive = OfEachState (λ first m. (c s : ℕ) → IsTrue (has (live m c) s
 abbrev pub NoneUndone : OpenMachine → Type 0
 NoneUndone m = (b c n : ℕ) → IsTrue (is_pending m.tree b) → IsTrue (is_above m.tree b n) → IsTrue (touches m.tree c n) → IsTrue (is_live m.tree n) → IsTrue (has (live m c) (stamp_of m.tree n))
 
--- where none is, a list has just the live accesses of its cell
+-- if no undo is under way, a list has exactly the live accesses of its cell
 abbrev pub ListsHaveAll : Type 0
 ListsHaveAll = OfEachState (λ first m. NoneUndone m → (c : ℕ) → live m c ≡ map (stamp_of m.tree) (live_accesses m.tree c))
 
@@ -74,41 +74,41 @@ ListsHaveAll = OfEachState (λ first m. NoneUndone m → (c : ℕ) → live m c 
 abbrev pub ListsAreChains : Type 0
 ListsAreChains = OfEachWithNewest (λ first m. (c : ℕ) → IsChainOf m.tree c (live m c))
 
--- an access by a strand that stands in a block of its own conflicts with none, where the cell has an access beneath that block
+-- if a strand is in a block of its own, and the cell has an access beneath that block, the strand's access conflicts with none
 abbrev pub OwnAccessesAreFree : Type 0
 OwnAccessesAreFree =
     OfEachWithNewest (λ first m. (s c u : ℕ) → IsTrue (is_running m s && in_block m s) → IsTrue (has (live m c) u) → IsTrue (is_above m.tree (place m.tree s) (access_at m.tree u)) → meets m.tree (newest (live m c)) (place m.tree s) ≡ false)
 
--- each block above an access and not above the next one of its list is committed, and ended before it
+-- each block above an access and not above the next one of its list is committed, and ended before the next one
 abbrev pub BlocksHaveEnded : Type 0
 BlocksHaveEnded = OfEachWithNewest (λ first m. (c : ℕ) → AllEndedBetween m.tree (map (access_at m.tree) (live m c)))
 
--- where no undo is under way, the list of each live cancel is right
+-- if no undo is under way, the list of each live cancel is right
 abbrev pub CancelsAreRight : Type 0
 CancelsAreRight = OfEachWithNewest (λ first m. NoneUndone m → AreCancels m.tree first)
 
 -- ## Victims
 
--- a conflict has no victim, or that is a block above its asker
+-- a conflict has no victim, or its victim is a block above its asker
 abbrev pub VictimsAreAbove : Type 0
 VictimsAreAbove =
     OfEachState (λ first m. All (λ c. (c.victim ≡ 0) ⊎ ((b : ℕ) × IsTrue (is_block m.tree b && is_above m.tree b c.asker) × (stamp_of m.tree b ≡ c.victim))) m.conflicts)
 
--- a running strand that is dying rolls back the block in which it stands, if it stands in one
+-- a running strand that is dying rolls back the block that it is in, if it is in one
 abbrev pub DyingRollBack : Type 0
 DyingRollBack = OfEachState (λ first m. (s : ℕ) → IsTrue (is_running m s && in_block m s && is_dying m s) → IsTrue (rolls_back m s))
 
--- and where it is not, that block is no victim
+-- if the strand is not dying, that block is no victim
 abbrev pub FreeAreSafe : Type 0
 FreeAreSafe = OfEachState (λ first m. (s : ℕ) → IsTrue (is_free m s && in_block m s) → is_victim m.tree m.conflicts (place m.tree s) ≡ false)
 
 -- ## Where an access is refused as soon as it conflicts
 
--- all that is so reached is reached where it may be refused at any time
+-- all that is reached with refusals at once is reached with refusals at any time
 abbrev pub AtOnceIsAtAnyTime : Type 0
 AtOnceIsAtAnyTime = (first : List ℤ) (m : OpenMachine) → IsReachedBy at_once first m → IsReachedBy (at_any_time (λ t us w. newest us)) first m
 
--- and what a refused access met is as a conflict tells it
+-- what a refused access met is as a conflict tells it
 abbrev pub RefusalsAreTold : Type 0
 RefusalsAreTold =
     (first : List ℤ) (m : OpenMachine) (s c : ℕ) (write : Option ℤ) (met : Met) → IsReachedBy at_once first m → Allowed at_once m (refuses s c write met) → IsMet m.tree (place m.tree s) c met

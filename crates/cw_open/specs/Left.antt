@@ -1,4 +1,4 @@
--- What a run leaves in its tree, journals, cancels and conflicts, where an access may conflict with the newest one alone.
+-- What a run leaves in its tree, journals, cancels and conflicts, if an access may conflict only with the newest one.
 use Rattle.std.specs.Prelude.{◌≡◌, ℕ, ℤ, false, IsTrue, is_some, All, List, [], ◌∷◌, length, map, filter, slice_get, Some, unwrap_or}
 use Rattle.std.specs.List.{list_any}
 use Rattle.cw_tree.specs.declared.node.Node.{Node}
@@ -20,7 +20,7 @@ use Rattle.cw_open.specs.Laws.{NoneUndone}
 use Rattle.cw_open.specs.Times.{ReachedInTime}
 use Rattle.cw_open.specs.Refused.{as_told}
 
--- e is the entry of the access with this stamp, which met value v
+-- e is the entry of the access with the stamp s, which met value v
 pub record IsEntryAt (t : List Node) (v : ℤ) (s : ℕ) (e : Entry) : Type 0 where
   pub stamp : e.mark.stamp ≡ s
   pub wrote : e.wrote ≡ is_some (written t (access_at t s))
@@ -39,8 +39,8 @@ pub record AreKept (m : OpenMachine) (kept : List (List Entry)) : Type 0 where
   pub len : length kept ≡ length m.first
   pub each : (c : ℕ) (v : ℤ) (es : List Entry) → slice_get m.first c ≡ Some v → slice_get kept c ≡ Some es → AreEntriesAt m.tree v (live m c) es
 
--- Conflicts as a run makes them: each refused access has one, and they come as their askers are numbered. The rest is as where they come
--- in depth-first order.
+-- Conflicts as a run makes them: each refused access has one, and they are in the order of their askers' numbers. The
+-- rest is as for conflicts in depth-first order.
 pub record AreMade (t : List Node) (cs : List Conflict) : Type 0 where
   pub each : map (λ c. c.asker) cs ≡ filter (is_tried t) (all_nodes t)
   pub recorded : All (IsRecorded t) cs
@@ -57,13 +57,13 @@ pub record IsHistoryAsMade (t : List Node) (first : List ℤ) (kept : List (List
   pub refusals : AreMade t cs
   pub rolls_back : RollsBack t cs
 
--- where no undo is under way, this is what a run leaves
+-- if no undo is under way, a run leaves a history as made
 abbrev pub HistoriesAreLeft : Type 0
 HistoriesAreLeft =
     (first : List ℤ) (m : OpenMachine) (kept : List (List Entry)) → ReachedInTime (as_told (λ t us w. newest us)) first m → NoneUndone m → AreKept m kept
     → IsHistoryAsMade m.tree first kept m.conflicts
 
--- and in depth-first order, with the conflicts as that lists their askers, it is a history
+-- in depth-first order, with the conflicts as that lists their askers, what a run leaves is a history
 abbrev pub HistoriesAreInOrder : Type 0
 HistoriesAreInOrder =
     (first : List ℤ) (m : OpenMachine) (kept : List (List Entry)) → ReachedInTime (as_told (λ t us w. newest us)) first m → NoneUndone m → AreKept m kept → IsNumbered m.tree

@@ -1,4 +1,4 @@
--- Runs in which each fork's left strand finishes before its right one steps: no access is refused in them.
+-- Runs in which each fork's left strand finishes before its right one steps. No access is refused in them.
 use Rattle.std.specs.Prelude.{◌≡◌, ℕ, ℤ, ◌<◌, ◌&&◌, Bool, true, false, not, nat_lt, IsTrue, List, [], ◌∷◌, length, Option}
 use Rattle.std.specs.List.{list_any, list_all}
 use Rattle.cw_tree.specs.declared.node.Node.{Node}
@@ -14,7 +14,7 @@ use Rattle.cw_open.specs.Times.{AreAhead}
 
 -- ## Left strands first
 
--- the strand that makes a step: none joins a fork, and one that stops makes nothing
+-- the strand that makes a step; a join is made by none, and a strand that stops makes nothing
 abbrev pub makers : Step → List ℕ
 makers (forks s stamp) = s ∷ []
 makers (begins s stamp) = s ∷ []
@@ -29,31 +29,32 @@ makers (finishes s dead) = s ∷ []
 makers (joins f) = []
 makers (stops s) = []
 
--- strand r is a left one, or the left strand of its fork has finished: none that is to the left of it is unfinished
+-- strand r is a left one, or the left strand of its fork has finished: no strand to the left of it is unfinished
 abbrev pub left_has_finished : OpenMachine → ℕ → Bool
 left_has_finished m r = not (list_any (λ l. nat_lt l r && not (has_finished m l)) (children m.tree (parent_of m.tree r)))
 
--- so it is of strand s, and of each strand around it
+-- the same holds of strand s, and of each strand around it
 abbrev pub lefts_have_finished : OpenMachine → ℕ → Bool
 lefts_have_finished m s = list_all (left_has_finished m) (strands_on m.tree s)
 
--- whenever a strand steps, the left strand of each fork in whose right one it stands has finished
+-- whenever a strand steps that is inside the right strand of a fork, the left strand of that fork has finished
 abbrev pub go_left_first : OpenMachine → List Step → Bool
 go_left_first m [] = true
 go_left_first m (e ∷ es) = list_all (lefts_have_finished m) (makers e) && go_left_first (after_open_step m e) es
 
 -- ## Accesses are refused while a block stands in the way
 
--- An access may be refused, whatever is said of it, but only while some block is pending that is not around its place. So it is not of one
--- that is refused later, for what it met before: its strand may have tried it ahead of its turn.
+-- An access may be refused, whatever is said of it, but only while some block is pending that is not around its place.
+-- This excludes an access that is refused later, for what it met before: its strand may have tried it ahead of its
+-- turn.
 abbrev pub while_pending : (List Node → List ℕ → Option ℤ → List ℕ) → Rules
 while_pending asked = record { asked = asked; MayRefuse = λ m s c w met. (b : ℕ) × IsTrue (is_pending m.tree b && not (is_ancestor m.tree b (place m.tree s))) }
 
--- one that is refused as soon as it conflicts meets such a block
+-- an access that is refused as soon as it conflicts meets such a block
 abbrev pub AtOnceIsWhilePending : Type 0
 AtOnceIsWhilePending = (first : List ℤ) (es : List Step) → IsRun at_once (first_machine first) es → IsRun (while_pending (λ t us w. newest us)) (first_machine first) es
 
--- where left strands go first, none is refused
+-- if left strands go first, no access is refused
 abbrev pub LeftFirstIsUnrefused : Type 0
 LeftFirstIsUnrefused =
     (asked : List Node → List ℕ → Option ℤ → List ℕ) (first : List ℤ) (es : List Step) → IsRun (while_pending asked) (first_machine first) es → IsTrue (go_left_first (first_machine first) es)
@@ -61,7 +62,7 @@ LeftFirstIsUnrefused =
 
 -- ## What stands to the left is older
 
--- node m stands in the left strand of a fork, and n in the right one
+-- node m is in the left strand of a fork, and n in the right one
 pub record IsLeftOf (t : List Node) (m n : ℕ) : Type 0 where
   pub fork : ℕ
   pub left : ℕ
@@ -71,23 +72,23 @@ pub record IsLeftOf (t : List Node) (m n : ℕ) : Type 0 where
   pub in_left : IsTrue (is_ancestor t left m)
   pub in_right : IsTrue (is_ancestor t right n)
 
--- it came, and was ended, before the stamp of n, and is pending no more
+-- m was made, and ended, before the stamp of n, and is no longer pending
 pub record IsOlder (t : List Node) (m n : ℕ) : Type 0 where
   pub came : stamp_of t m < stamp_of t n
   pub ended : end_of t m < stamp_of t n
   pub shut : is_pending t m ≡ false
 
--- what stands to the left of a stamp is older
+-- what is to the left of a stamp is older
 abbrev pub LeftsAreOlder : List Node → Type 0
 LeftsAreOlder t = (m n : ℕ) → m < length t → n < length t → IsLeftOf t m n → 0 < stamp_of t n → IsOlder t m n
 
--- so it is where left strands go first and stamps are drawn by the steps that use them, whenever accesses are refused
+-- this holds if left strands go first and each stamp is drawn by the step that uses it, whenever accesses are refused
 abbrev pub LeftFirstAreOlder : Type 0
 LeftFirstAreOlder =
     (asked : List Node → List ℕ → Option ℤ → List ℕ) (first : List ℤ) (es : List Step) → IsRun (at_any_time asked) (first_machine first) es → IsTrue (go_left_first (first_machine first) es)
     → AreAhead (first_machine first) es → LeftsAreOlder (after_all (first_machine first) es).tree
 
--- and each strand to the left of a stamp has finished
+-- each strand to the left of a stamp has finished
 abbrev pub LeftsHaveFinished : OpenMachine → Type 0
 LeftsHaveFinished m = (x n : ℕ) → IsTrue (is_strand m.tree x) → n < length m.tree → IsLeftOf m.tree x n → 0 < stamp_of m.tree n → IsTrue (has_finished m x)
 

@@ -1,4 +1,4 @@
--- The state of the open machine, and where its strands stand.
+-- The state of the open machine, and where its strands are.
 use Rattle.std.specs.Prelude.{ℕ, ℤ, pos, ◌==◌, ◌&&◌, Bool, not, List, [], ◌∷◌, map, slice_get, unwrap_or}
 use Rattle.std.specs.List.{list_any}
 use Rattle.cw_tree.specs.declared.node.Node.{Node}
@@ -52,7 +52,7 @@ waits m s = list_any (λ f. is_fork m.tree f && (strand_of m.tree f == s) && not
 abbrev pub is_running : OpenMachine → ℕ → Bool
 is_running m s = is_strand m.tree s && not (has_finished m s) && not (waits m s) && not (has m.stopped s)
 
--- the innermost pending block in which strand s stands was begun in it
+-- strand s has a pending block of its own
 abbrev pub in_block : OpenMachine → ℕ → Bool
 in_block m s = not (place m.tree s == s)
 
@@ -68,10 +68,10 @@ is_dying m s = list_any (λ c. is_above m.tree s c.asker && list_any (falls m c)
 abbrev pub is_free : OpenMachine → ℕ → Bool
 is_free m s = is_running m s && not (is_dying m s)
 
--- a refused access beneath strand s has a victim that is still pending, and that is block b or above it
+-- a refused access beneath strand s has a victim that is still pending, which is block b or above it
 abbrev pub leads_back : OpenMachine → ℕ → ℕ → Bool
 leads_back m s b = list_any (λ c. is_above m.tree s c.asker && list_any (λ v. falls m c v && is_ancestor m.tree v b) (all_nodes m.tree)) m.conflicts
 
--- strand s has to roll back the block in which it stands
+-- strand s has to roll back the block that it is in
 abbrev pub rolls_back : OpenMachine → ℕ → Bool
 rolls_back m s = is_running m s && in_block m s && leads_back m s (place m.tree s)

@@ -15,14 +15,15 @@ use Rattle.cw_open.specs.Runs.{Rules, IsMet, IsRun, IsReachedBy, at_once, at_any
 use Rattle.cw_open.specs.Times.{AreTimely, ReachedInTime, AreAhead}
 use Rattle.cw_open.specs.Laws.{OfEachState}
 
--- the newest accesses of its cell, as a conflict tells them: one to eight stamps, rising, and last that of the access that it met
+-- the newest accesses of its cell, as a conflict tells them: one to eight stamps, rising, the last of which is that of
+-- the access that it met
 pub record IsNewest (t : List Node) (c : ℕ) (met : Met) : Type 0 where
   pub len : (1 ≤ length met.chain) × (length met.chain ≤ 8)
   pub rises : IsStrictlyIncreasing met.chain
   pub accesses : All (HasAccess t c) met.chain
   pub last : (us : List ℕ) × (met.chain ≡ us ++ met.last ∷ [])
 
--- an access may be refused where a conflict can tell what it met
+-- an access may be refused if a conflict can tell what it met
 abbrev pub as_told : (List Node → List ℕ → Option ℤ → List ℕ) → Rules
 as_told asked = record { asked = asked; MayRefuse = λ m s c w met. IsMet m.tree (place m.tree s) c met × IsNewest m.tree c met }
 
@@ -32,29 +33,29 @@ as_told asked = record { asked = asked; MayRefuse = λ m s c w met. IsMet m.tree
 abbrev pub AskersAreTried : Type 0
 AskersAreTried = OfEachState (λ first m. map (λ c. c.asker) m.conflicts ≡ filter (is_tried m.tree) (all_nodes m.tree))
 
--- each conflict tells what was met when it was made, and does so ever after
+-- each conflict tells what was met when it was made, and this stays true
 abbrev pub ConflictsAreRecorded : Type 0
 ConflictsAreRecorded =
     (asked : List Node → List ℕ → Option ℤ → List ℕ) (first : List ℤ) (m : OpenMachine) → ReachedInTime (as_told asked) first m → All (IsRecorded m.tree) m.conflicts
 
 -- ## Victims
 
--- an aborted block is a victim, or stands beneath one
+-- an aborted block is a victim, or is beneath one
 abbrev pub AbortedAreVictims : Type 0
 AbortedAreVictims = OfEachState (λ first m. (b : ℕ) → IsTrue (is_aborted m.tree b) → IsTrue (list_any (is_victim m.tree m.conflicts) (path m.tree b)))
 
--- and a committed one is none
+-- a committed block is no victim
 abbrev pub CommittedAreSafe : Type 0
 CommittedAreSafe = OfEachState (λ first m. (b : ℕ) → IsTrue (is_committed m.tree b) → is_victim m.tree m.conflicts b ≡ false)
 
 -- ## On the way back
 
--- after a refused access with a victim, and after an aborted block that is none, a strand makes nothing more in their place
+-- after a refused access with a victim, and after an aborted block that is no victim, a strand makes nothing more in their place
 abbrev pub DyingGoBack : Type 0
 DyingGoBack = OfEachState (λ first m. RollsBack m.tree m.conflicts)
 
--- The fork of strand x, which died, stands beneath a victim, and is the last that was made in its place: there no block is committed, and no
--- strand finishes but dead; a running strand that stands there is dying.
+-- The fork of strand x, which died, is beneath a victim, and is the last node in its place. That place is no committed
+-- block. If it is a strand that has finished, it finished dead. A running strand at that place is dying.
 pub record DiedBeneathVictim (m : OpenMachine) (x : ℕ) : Type 0 where
   pub victim : IsTrue (list_any (is_victim m.tree m.conflicts) (path m.tree (parent_of m.tree x)))
   pub last : has_later m.tree (parent_of m.tree x) ≡ false
@@ -67,17 +68,17 @@ DeadGoBack = OfEachState (λ first m. (x : ℕ) → 0 < x → IsTrue (finished_d
 
 -- ## Told runs
 
--- where an access is refused when its conflict can tell what it met, it may be refused at any time
+-- if an access is refused when its conflict can tell what it met, it may be refused at any time
 abbrev pub ToldIsAtAnyTime : Type 0
 ToldIsAtAnyTime = (asked : List Node → List ℕ → Option ℤ → List ℕ) (first : List ℤ) (m : OpenMachine) → ReachedInTime (as_told asked) first m → IsReachedBy (at_any_time asked) first m
 
 -- ## Where an access is refused as soon as it conflicts
 
--- a conflict can tell what it met
+-- a conflict can tell what the access met
 abbrev pub AtOnceIsTold : Type 0
 AtOnceIsTold = (first : List ℤ) (es : List Step) → IsRun at_once (first_machine first) es → IsRun (as_told (λ t us w. newest us)) (first_machine first) es
 
--- and where each stamp is drawn by the step that uses it, all are drawn in time
+-- if each stamp is drawn by the step that uses it, all are drawn in time
 abbrev pub AheadIsTimely : Type 0
 AheadIsTimely = (first : List ℤ) (es : List Step) → IsRun at_once (first_machine first) es → AreAhead (first_machine first) es → AreTimely (λ n. 0) (first_machine first) es
 

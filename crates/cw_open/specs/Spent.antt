@@ -10,7 +10,8 @@ use Rattle.cw_tree.specs.InOrder.{renamed, in_order, conflicts_in_order}
 use Rattle.cw_open.specs.Machine.{OpenMachine, has_finished}
 use Rattle.cw_open.specs.Laws.{OfEachState}
 
--- what a conflict refused stands as it was refused: that block is pending, or the access is the last node of a strand that is still at it
+-- what a conflict refused is as it was when refused: the block is pending, or the access is the last node of a strand
+-- that is still at its place
 abbrev pub StandsStill : OpenMachine → Conflict → Option ℕ → Type 0
 StandsStill m c (Some v) = IsTrue (is_pending m.tree (refused_node m.tree c))
 StandsStill m c None =
@@ -22,6 +23,6 @@ pub record HasSpent (m : OpenMachine) (budget x : ℕ) : Type 0 where
   pub told : IsTrue (list_any (λ c. (c.attempt == budget) && (strand_of m.tree (refused_node m.tree c) == x)) m.conflicts)
   pub still : All (λ c. c.attempt ≡ budget → StandsStill m c (victim_of c)) m.conflicts
 
--- so it is said in depth-first order
+-- it has spent its budget in depth-first order too
 abbrev pub SpentAreInOrder : Type 0
 SpentAreInOrder = OfEachState (λ first m. (budget x : ℕ) → IsNumbered m.tree → HasSpent m budget x → Spent (in_order m.tree) (conflicts_in_order m.tree m.conflicts) budget (renamed m.tree x))

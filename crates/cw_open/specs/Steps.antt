@@ -1,4 +1,4 @@
--- The steps of the open machine, and what each does. A step carries its stamp, so a draw of a number from the clock is none.
+-- The steps of the open machine, and what each does. A step carries its stamp, so drawing a number from the clock is no step.
 use Rattle.cw_code.specs.declared.Back.{Back}
 use Rattle.std.specs.Prelude.{ℕ, ℤ, Bool, not, max, List, [], ◌∷◌, ◌++◌, length, map, filter, slice_set, Option}
 use Rattle.std.specs.Option.{option_map_or}
@@ -17,7 +17,8 @@ use Rattle.cw_tree.specs.VictimsAt.{victim_at}
 use Rattle.cw_tree.specs.NextNodes.{fork_nodes}
 use Rattle.cw_open.specs.Machine.{OpenMachine, live, live_value}
 
--- what a refused access met: the last access of its cell and a pending block that stood in the way, by their stamps, and the newest accesses
+-- what a refused access met: the last access of its cell and a pending block that stood in the way, by their stamps,
+-- and the newest accesses
 pub record Met : Type 0 where
   pub last : ℕ
   pub block : ℕ
@@ -40,11 +41,11 @@ pub data Step : Type 0 where
   joins : (fork : ℕ) → Step
   stops : (strand : ℕ) → Step
 
--- nodes come in, the first of them with a stamp
+-- adds nodes, of which the first has the stamp
 abbrev pub adds : OpenMachine → List Node → ℕ → OpenMachine
 adds m xs stamp = record m { tree = m.tree ++ xs; clock = max m.clock stamp }
 
--- the block in which strand s stands is closed
+-- closes the block that strand s is in
 abbrev pub closes : OpenMachine → ℕ → BlockState → ℕ → OpenMachine
 closes m s state end = record m { tree = closed m.tree (place m.tree s) state end; clock = max m.clock end }
 
@@ -66,7 +67,7 @@ refusal m p c met =
 abbrev pub live_beside : OpenMachine → ℕ → ℕ → List ℕ
 live_beside m b c = filter (λ s. not (is_above m.tree b (access_at m.tree s))) (live m c)
 
--- what the block in which strand s stands puts back, where it is given up at a stamp
+-- what the block that strand s is in puts back, if it is given up at a stamp
 abbrev pub puts_back : OpenMachine → (s stamp : ℕ) → List Back
 puts_back m s stamp = put_back m.tree m.first (λ c. map (access_at m.tree) (live m c)) (place m.tree s) stamp
 

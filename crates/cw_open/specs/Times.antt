@@ -1,5 +1,6 @@
--- When stamps are drawn. A stamp may be drawn before the step that uses it, but not before all that precedes it in series was made and
--- closed. Steps do not say when; what has to be known of it is the clock at which each node was made, or closed.
+-- When stamps are drawn. A stamp may be drawn before the step that uses it, but not before all that precedes it in
+-- series was made and closed. Steps do not say when. It is enough to know the clock at which each node was made, or
+-- closed.
 use Rattle.std.specs.Prelude.{◌≡◌, ◌⊎◌, ℕ, ℤ, ◌<◌, ◌≤◌, ◌&&◌, ◌||◌, Bool, not, nat_le, IsTrue, List, [], ◌∷◌, length, if◌then◌else◌}
 use Rattle.cw_tree.specs.declared.node.Node.{Node}
 use Rattle.cw_tree.specs.Nodes.{stamp_of, end_of, is_block, is_pending}
@@ -10,7 +11,7 @@ use Rattle.cw_open.specs.Machine.{OpenMachine}
 use Rattle.cw_open.specs.Steps.{Met, Step, forks, begins, accesses, refuses, outputs, cancels, commits, aborts, after_open_step, after_all, first_machine}
 use Rattle.cw_open.specs.Runs.{Rules, IsRun}
 
--- node n comes with this step, or is closed by it
+-- the step makes node n, or closes it
 abbrev pub is_changed : OpenMachine → Step → ℕ → Bool
 is_changed m e n = nat_le (length m.tree) n || (is_pending m.tree n && not (is_pending (after_open_step m e).tree n))
 
@@ -18,11 +19,11 @@ is_changed m e n = nat_le (length m.tree) n || (is_pending m.tree n && not (is_p
 abbrev pub times_after : (ℕ → ℕ) → OpenMachine → Step → ℕ → ℕ
 times_after times m e n = if is_changed m e n then (after_open_step m e).clock else times n
 
--- a stamp that is used at place p was drawn once all before it in series had been made and closed
+-- a stamp that is used at place p was drawn after all before it in series had been made and closed
 abbrev pub IsDrawn : (ℕ → ℕ) → List Node → (p stamp : ℕ) → Type 0
 IsDrawn times t p stamp = (n : ℕ) → n < length t → IsTrue (is_before_at t n p) → times n < stamp
 
--- block b was closed after all was made that is before place p, or around it
+-- block b was closed after all that is before place p, or around it, was made
 pub record ClosedLater (times : ℕ → ℕ) (t : List Node) (p b : ℕ) : Type 0 where
   pub before : (n : ℕ) → n < length t → IsTrue (is_before_at t n p) → (stamp_of t n ≤ times b) × (end_of t n ≤ times b)
   pub around : (a : ℕ) → IsTrue (is_block t a && is_ancestor t a p) → stamp_of t a ≤ times b
@@ -44,7 +45,7 @@ abbrev pub AreTimely : (ℕ → ℕ) → OpenMachine → List Step → Type 0
 AreTimely times m [] = Unit {0}
 AreTimely times m (e ∷ es) = IsTimely times m e × AreTimely (times_after times m e) (after_open_step m e) es
 
--- a run whose stamps were drawn in time leads to this state
+-- a run whose stamps were drawn in time leads to the state m
 pub record ReachedInTime (r : Rules) (first : List ℤ) (m : OpenMachine) : Type 0 where
   pub steps : List Step
   pub run : IsRun r (first_machine first) steps
@@ -53,7 +54,7 @@ pub record ReachedInTime (r : Rules) (first : List ℤ) (m : OpenMachine) : Type
 
 -- ## Where a stamp is drawn by the step that uses it
 
--- it exceeds the clock
+-- the stamp of the step exceeds the clock
 abbrev pub IsAhead : OpenMachine → Step → Type 0
 IsAhead m (forks s stamp) = m.clock < stamp
 IsAhead m (begins s stamp) = m.clock < stamp

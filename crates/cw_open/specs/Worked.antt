@@ -82,7 +82,7 @@ refused_beneath =
     after_all (first_machine (pos 0 ∷ []))
     (forks 0 1 ∷ begins 2 2 ∷ accesses 2 0 (Some (pos 1)) 3 ∷ begins 3 4 ∷ forks 3 5 ∷ refuses 8 0 (Some (pos 2)) (record { last = 3; block = 2; chain = 3 ∷ [] }) ∷ [])
 
--- it finishes dead, its right sibling dead without a step, and what forked them rolls back
+-- the left strand finishes dead, the right one finishes dead without a step, and the strand that forked rolls back
 abbrev pub left_dead : OpenMachine
 left_dead = after_all refused_beneath (finishes 8 true ∷ [])
 
@@ -124,8 +124,9 @@ pub record Twice : Type 0 where
 
 -- ## A block is given up
 
--- Cell 1 is written before the block, read in it and written again. A strand in it writes cell 0 in a block; another writes cell 2 in a block
--- that is rolled back, and cell 0, which it is refused at first, when it does the block again, and reads cell 3.
+-- Cell 1 is written before the block, read in it and written again. A strand in the block writes cell 0 in a block of
+-- its own. Another strand writes cell 2 in a block that is rolled back. When it does that block again, it writes cell
+-- 0, which was refused at first, and reads cell 3.
 abbrev pub to_give_up : OpenMachine
 to_give_up =
     after_all (first_machine (pos 1 ∷ pos 2 ∷ pos 3 ∷ pos 4 ∷ []))
@@ -150,10 +151,10 @@ pub record GivenUp : Type 0 where
   pub lists : given_up_now.lists ≡ to_give_up.lists
   pub pending : is_pending given_up_now.tree 2 ≡ true
   pub clock : given_up_now.clock ≡ 16
-  -- to put back is refused nowhere
+  -- no write that puts back is refused
   pub first_put : meets given_up_now.tree (newest (live given_up_now 0)) 2 ≡ false
   pub second_put : meets given_up_now.tree (newest (live given_up_now 1)) 2 ≡ false
-  -- and gives what stood there before the block
+  -- the cells have their values from before the block
   pub first : live_value put_back_all 0 ≡ pos 1
   pub second : live_value put_back_all 1 ≡ pos 5
   pub third : live_value put_back_all 2 ≡ pos 3
@@ -175,14 +176,14 @@ left_ended = commits 2 4 ∷ finishes 2 false ∷ []
 abbrev pub written_left : Met
 written_left = record { last = 3; block = 2; chain = 3 ∷ [] }
 
--- when the left strand has finished, or before
+-- the right strand reads after the left one has finished, or tries it before
 abbrev pub read_after : List Step
 read_after = left_wrote ++ left_ended ++ accesses 3 0 None 5 ∷ finishes 3 false ∷ joins 1 ∷ finishes 0 false ∷ []
 
 abbrev pub read_before : List Step
 read_before = left_wrote ++ refuses 3 0 None written_left ∷ left_ended ++ accesses 3 0 None 5 ∷ []
 
--- or it is refused when the left strand has finished
+-- the read is refused after the left strand has finished
 abbrev pub told_after : List Step
 told_after = left_wrote ++ left_ended ++ refuses 3 0 None written_left ∷ []
 
@@ -198,15 +199,15 @@ pub record LeftStrands : Type 0 where
   pub unrefused : (after_all one_cell read_after).conflicts ≡ []
   pub before : go_left_first one_cell read_before ≡ false
   pub refused : length (after_all one_cell read_before).conflicts ≡ 1
-  -- what it met can be told then too, but nothing is pending any more
+  -- what it met can still be told then, but nothing is pending any more
   pub late : go_left_first one_cell told_after ≡ true
   pub met : IsMet (after_all one_cell (left_wrote ++ left_ended)).tree 3 0 written_left
   pub ended : list_any (is_pending (after_all one_cell (left_wrote ++ left_ended)).tree) (all_nodes (after_all one_cell (left_wrote ++ left_ended)).tree) ≡ false
   pub refused_late : length (after_all one_cell told_after).conflicts ≡ 1
-  -- the block of the left strand stands to the left of the read, and is older
+  -- the block of the left strand is to the left of the read, and is older
   pub beside : IsLeftOf (after_all one_cell read_after).tree 4 6
   pub older : IsOlder (after_all one_cell read_after).tree 4 6
-  -- not where a stamp was drawn before it was used, though left strands went first
+  -- this fails if a stamp was drawn before it was used, though left strands went first
   pub early : go_left_first one_cell begun_early ≡ true
   pub beside_early : IsLeftOf (after_all one_cell begun_early).tree 4 5
   pub not_older : IsOlder (after_all one_cell begun_early).tree 4 5 → ⊥

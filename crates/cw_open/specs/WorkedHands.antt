@@ -1,5 +1,5 @@
--- A small run with two strands that step in turn, one of them with a number that it drew early: what the laws on several hands ask for is so in
--- it, and what they would say of a number that the step of the other brings is not.
+-- A small run with two strands that step in turn, one of them with a number that it drew early. It is as the laws on
+-- several hands ask. If the step of the other strand brings the number, what the laws say of it fails.
 use Rattle.std.specs.Prelude.{◌≡◌, ℕ, ℤ, List, [], ◌∷◌, ◌++◌, Some, None, true, false, pos}
 use Rattle.cw_tree.specs.Nodes.{is_pending}
 use Rattle.cw_tree.specs.Walks.{has, is_above}
@@ -53,7 +53,7 @@ abbrev pub rejoined : List Step
 rejoined = right_read ++ join_steps 2 3 4 false false
 
 pub record TwoHands : Type 0 where
-  -- the two run, and stand in parallel
+  -- the two run, and their places are in parallel
   pub left_runs : is_running (led_by left_wrote) 3 ≡ true
   pub right_runs : is_running (led_by left_wrote) 4 ≡ true
   pub forker_waits : is_running (led_by left_wrote) 0 ≡ false
@@ -62,15 +62,15 @@ pub record TwoHands : Type 0 where
   pub left_began : begun_in (led_by left_wrote).tree 3 ≡ 5 ∷ []
   pub right_began : begun_in (led_by left_wrote).tree 4 ≡ []
   pub forker_began : begun_in (led_by left_wrote).tree 0 ≡ 1 ∷ []
-  -- 3 may be next at the place of the right strand when that draws it, and when the left one has stepped
+  -- 3 may be next at the place of the right strand when that draws it, and still after the left one has stepped
   pub next : IsNextStamp (led_by forked).tree 4 3
   pub drawn : IsDrawn (times_of forked) (led_by forked).tree 4 3
   pub still_next : IsNextStamp (led_by left_wrote).tree 4 3
   pub still_drawn : IsDrawn (times_of left_wrote) (led_by left_wrote).tree 4 3
-  -- and 6 the end of the left strand's block
+  -- 6 may be the end of the left strand's block
   pub end : IsEndStamp (led_by left_wrote).tree 5 6
   pub still_end : IsEndStamp (led_by right_showed).tree 5 6
-  -- the read conflicts, and does not when the block has ended; but what it met is as a conflict tells it then too, and met in time
+  -- The read conflicts, and no longer does after the block has ended. What it met is still as a conflict tells it, and met in time.
   pub conflicts : conflict_at (led_by right_showed).tree 6 4 ≡ true
   pub conflicts_no_more : conflict_at (led_by left_ended).tree 6 4 ≡ false
   pub refused : IsRefused (led_by right_showed) 4 0 met_left
@@ -80,7 +80,7 @@ pub record TwoHands : Type 0 where
   pub ended : is_pending (led_by left_ended).tree 5 ≡ false
   pub still_met : IsMet (led_by left_ended).tree 4 0 met_left
   pub still_in_time : IsMetInTime (times_of left_ended) (led_by left_ended).tree 4 met_left
-  -- the run, with its times: the block was closed when the clock was at 6
+  -- the run, with its times; the block was closed when the clock was at 6
   pub leads : RunsTo (as_told (λ t us w. Rattle.cw_tree.specs.Newest.newest us)) one_cell (led_by rejoined) (times_of rejoined)
   pub closed_at : times_of rejoined 5 ≡ 6
   pub clock : (led_by rejoined).clock ≡ 7
@@ -98,11 +98,11 @@ pub record TwoHands : Type 0 where
 
 -- ## A number that the step of the other brings
 
--- that what may be the next stamp at the place of a strand still may be after each step of another
+-- what may be the next stamp at the place of a strand still may be after each step of another
 abbrev pub AllNextStampsStay : Type 0
 AllNextStampsStay = OfEachOther (λ m e s. (stamp : ℕ) → IsNextStamp m.tree (place m.tree s) stamp → IsNextStamp (after_open_step m e).tree (place (after_open_step m e).tree s) stamp)
 
 pub record BroughtByOther : Type 0 where
-  -- where the left strand begins its block with 3, that is gone for the right one
+  -- if the left strand begins its block with 3, that is gone for the right one
   pub gone : IsNextStamp (led_by (forked ++ begins 3 3 ∷ [])).tree 4 3 → ⊥
   pub not_all : AllNextStampsStay → ⊥

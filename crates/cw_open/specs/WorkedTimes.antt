@@ -1,5 +1,6 @@
--- Small runs that are told and in time though a step comes late: an access is refused for a block that has ended by then, and a block begins
--- with a stamp that was drawn before others. Each is a history, and has a sibling, with one output more, to which no such run leads.
+-- Small runs that are told and in time though a step comes late: an access is refused for a block that has ended by
+-- then, and a block begins with a stamp that was drawn before others. Each is a history. Each has a sibling, with one
+-- output more, to which no such run leads.
 use Rattle.std.specs.Prelude.{◌≡◌, ℕ, ℤ, List, [], ◌∷◌, ◌++◌, Option, Some, None, true, false, pos}
 use Rattle.cw_tree.specs.declared.node.Node.{Node}
 use Rattle.cw_tree.specs.declared.node.Kind.TheVariants.{Strand, Fork, Read, Write, Out, Tried}
@@ -26,11 +27,11 @@ one_cell = pos 0 ∷ []
 abbrev pub opening : OpenMachine
 opening = first_machine one_cell
 
--- a run as told and in time leads to this state, where an access may conflict with the newest one alone
+-- a run as told and in time leads to the state, if an access may conflict only with the newest one
 abbrev pub IsLeft : OpenMachine → Type 0
 IsLeft = ReachedInTime (as_told (λ t us w. newest us)) one_cell
 
--- no run as told and in time leads there, with whichever accesses one may conflict
+-- no run as told and in time leads there, whichever accesses one may conflict with
 abbrev pub IsNever : OpenMachine → Type 0
 IsNever m = (asked : List Node → List ℕ → Option ℤ → List ℕ) → ReachedInTime (as_told asked) one_cell m → ⊥
 
@@ -51,7 +52,7 @@ read_one stamp = record { mark = record { strand = 0; stamp = stamp }; wrote = f
 abbrev pub left_goes_on : List Step
 left_goes_on = forks 0 1 ∷ begins 2 2 ∷ accesses 2 0 (Some (pos 1)) 3 ∷ commits 2 4 ∷ outputs 2 (pos 1) 5 ∷ []
 
--- now it is refused for it, and made again
+-- now the access is refused for the block, and made again
 abbrev pub told_late : List Step
 told_late = refuses 3 0 None (record { last = 3; block = 2; chain = 3 ∷ [] }) ∷ accesses 3 0 None 7 ∷ both_finish
 
@@ -73,7 +74,7 @@ late_conflict = record { cell = 0; last = 3; asker = 7; block = 2; victim = 0; a
 abbrev pub late_entries : List (List Entry)
 late_entries = (wrote_one 3 ∷ read_one 7 ∷ []) ∷ []
 
--- the same, but the right strand showed something before, when the block had ended
+-- the same, but the right strand made an output before, after the block had ended
 abbrev pub late_with_output : List Step
 late_with_output = left_goes_on ++ outputs 3 (pos 2) 6 ∷ told_late
 
@@ -111,7 +112,7 @@ early_tree =
 abbrev pub early_entries : List (List Entry)
 early_entries = (wrote_one 3 ∷ read_one 5 ∷ []) ∷ []
 
--- the same, but the right strand showed something before its block
+-- the same, but the right strand made an output before its block
 abbrev pub early_with_output : List Step
 early_with_output = forks 0 1 ∷ accesses 2 0 (Some (pos 1)) 3 ∷ outputs 3 (pos 2) 4 ∷ begins 3 2 ∷ accesses 3 0 None 5 ∷ commits 3 6 ∷ both_finish
 

@@ -1,13 +1,13 @@
-//! The open machine: what strands that run at the same time do to a computation tree, the cells' live accesses and a clock. There is no
-//! code here that runs.
-//! Stands on `cw_tree`.
-//! Contracts cite `specs/Machine.antt` (the state, and where its strands stand), `specs/Steps.antt` (the steps, and what each does),
-//! `specs/Runs.antt` (what each step needs, and runs), `specs/Open.antt` (nodes that are still open), `specs/Laws.antt` (what is true of
-//! every state that a run leads to), `specs/Reads.antt` (what live reads met), `specs/Times.antt` (when stamps are drawn),
-//! `specs/Refused.antt` (what is true of refused accesses), `specs/LeftFirst.antt` (runs in which each fork's left strand finishes before
-//! its right one steps: none is refused, and what stands to the left of a stamp is older than it), `specs/Left.antt` (what a run leaves),
-//! `specs/Reordered.antt` (that it is true in depth-first order) and `specs/Hands.antt` (what the steps of others leave of a strand, and of
-//! what it has drawn); `specs/Worked.antt`, `specs/WorkedTimes.antt` and `specs/WorkedHands.antt` try them.
+//! The open machine: what strands that run at the same time do to a computation tree, the cells' live accesses and a
+//! clock. Use its laws to show that what a concurrent run leaves is coherent. No code here runs.
+//! Contracts cite `specs/Machine.antt` (the state, and where its strands are), `specs/Steps.antt` (the steps, and what
+//! each does), `specs/Runs.antt` (what each step needs, and runs), `specs/Open.antt` (nodes that are still open),
+//! `specs/Laws.antt` (what is true of every state that a run leads to), `specs/Reads.antt` (what live reads met),
+//! `specs/Times.antt` (when stamps are drawn), `specs/Refused.antt` (what is true of refused accesses),
+//! `specs/LeftFirst.antt` (runs in which each fork's left strand finishes before its right one steps: none is refused,
+//! and what is to the left of a stamp is older than it), `specs/Left.antt` (what a run leaves), `specs/Reordered.antt`
+//! (that it is true in depth-first order) and `specs/Hands.antt` (what the steps of others leave of a strand, and of
+//! what it has drawn). `specs/Worked.antt`, `specs/WorkedTimes.antt` and `specs/WorkedHands.antt` try them.
 #![tactic(auto)]
 
 ghost use Rattle.cw_open.specs.Hands.{AheadIsNext, AllowedAtAnyTime, BeneathIsOwn, ConflictsAreTold, DrawnStay, EndStampsStay, ForkersRunAgain, JoinsLeaveAlone, MetInTimeStays, MetStays, NewestStay, NextStampsStay, NoneConflictsMore, OthersLeaveAlone, PlacesPart, RunsAreInTime, RunsBegin, RunsGoOn, StrandsMayJoin, TimesAreLow};
@@ -24,8 +24,8 @@ ghost use Rattle.cw_open.specs.WorkedTimes.{DrawnEarly, RefusedLate};
 
 use std::marker::Brand;
 
-/// The tree of every state: it is sound, its open nodes are nested, its running strands stand at places, and the clock is at its latest
-/// stamp or after it.
+/// In every state the tree is sound, its open nodes are nested, its running strands are at places, and the clock is at
+/// its latest stamp or after it.
 pub fn trees_of_runs()
     ensures trees { TreesAreSound }
     ensures open_nodes { OpenAreNested }
@@ -33,7 +33,7 @@ pub fn trees_of_runs()
     ensures clocks { ClocksAreLatest }
 {}
 
-/// The lists of every state: they rise, and have live accesses of their cells alone; where no undo is under way, they have all of them.
+/// In every state the lists rise and contain only live accesses of their cells. If no undo is under way, they contain all of them.
 pub fn lists_of_runs()
     ensures cells { CellsFit }
     ensures cancels { CancelsNameCells }
@@ -42,49 +42,52 @@ pub fn lists_of_runs()
     ensures all { ListsHaveAll }
 {}
 
-/// Where an access may conflict with the newest one alone, each live read has what the live accesses before it left.
+/// If an access may conflict only with the newest one, each live read has what the live accesses before it left.
 pub fn reads_of_runs()
     ensures reads { ReadsAreMet }
 {}
 
-/// Where an access may conflict with the newest one alone, each list is a chain, and what stands between two of a list has ended.
+/// If an access may conflict only with the newest one, each list is a chain. Each block above an access of a list and
+/// not above the next one has ended.
 pub fn chains_of_runs()
     ensures chains { ListsAreChains }
     ensures ended { BlocksHaveEnded }
 {}
 
-/// Where an access may conflict with the newest one alone and no undo is under way, each live cancel lists what its block puts back: the cells
-/// that the block wrote before it, and what each had before the block came to it. An access by a strand that stands in a block of its own
-/// conflicts with none, where the cell has an access beneath that block: so to put back is not refused.
+/// If an access may conflict only with the newest one and no undo is under way, each live cancel lists what its block
+/// puts back: the cells that the block wrote before it, and what each had before the block first accessed it. If a
+/// strand is in a block of its own and the cell has an access beneath that block, the strand's access conflicts with
+/// none. So a write that puts back is not refused.
 pub fn cancels_of_runs()
     ensures right { CancelsAreRight }
     ensures own { OwnAccessesAreFree }
 {}
 
-/// Victims are above those for whom they fall: a running strand that is dying rolls back the block in which it stands, if it stands in one,
-/// and where it is not that block is no victim.
+/// Victims are above the accesses for which they have to roll back. A running strand that is dying rolls back the block
+/// that it is in, if it is in one. If the strand is not dying, that block is no victim.
 pub fn victims_of_runs()
     ensures above { VictimsAreAbove }
     ensures dying { DyingRollBack }
     ensures free { FreeAreSafe }
 {}
 
-/// What is said of runs holds where an access is refused as soon as it conflicts with the newest one, and what it met is as a conflict
-/// tells it.
+/// What is said of runs holds if an access is refused as soon as it conflicts with the newest one. What it met is then
+/// as a conflict tells it.
 pub fn runs_at_once()
     ensures runs { AtOnceIsAtAnyTime }
     ensures told { RefusalsAreTold }
 {}
 
-/// Each refused access has its conflict. Where an access is refused when its conflict can tell what it met, and stamps are drawn in time, each
-/// conflict is a recorded one when it is made, and stays one.
+/// Each refused access has its conflict. If an access is refused only when its conflict can tell what it met, and
+/// stamps are drawn in time, each conflict is a recorded one when it is made, and stays one.
 pub fn conflicts_of_runs()
     ensures askers { AskersAreTried }
     ensures recorded { ConflictsAreRecorded }
 {}
 
-/// What was rolled back was so for a victim, and no victim is committed. A strand that is dying does nothing but roll back and finish: in its
-/// place a refused access with a victim, an aborted block that is none, and a fork of which a strand died are the last.
+/// What was rolled back was rolled back for a victim, and no victim is committed. A strand that is dying only rolls
+/// back and finishes. In its place, a refused access with a victim, an aborted block that is no victim, or a fork of
+/// which a strand died is the last node.
 pub fn dying_go_back()
     ensures aborted { AbortedAreVictims }
     ensures committed { CommittedAreSafe }
@@ -92,37 +95,38 @@ pub fn dying_go_back()
     ensures dead { DeadGoBack }
 {}
 
-/// Where an access is refused as soon as it conflicts with the newest one, its conflict can tell what it met, and stamps are drawn in time
-/// where each exceeds the clock.
+/// If an access is refused as soon as it conflicts with the newest one, its conflict can tell what it met. If each
+/// stamp exceeds the clock, stamps are drawn in time.
 pub fn conflicts_at_once()
     ensures told { AtOnceIsTold }
     ensures timely { AheadIsTimely }
 {}
 
-/// Where each fork's left strand finishes before its right one steps, no access is refused: one may be refused only while some block is
-/// pending that is not around its place, as is so where it is refused as soon as it conflicts.
+/// If each fork's left strand finishes before its right one steps, no access is refused. This needs that an access is
+/// refused only while some block is pending that is not around its place, which holds if it is refused as soon as it
+/// conflicts.
 pub fn left_strands_are_unrefused()
     ensures unrefused { LeftFirstIsUnrefused }
     ensures at_once { AtOnceIsWhilePending }
 {}
 
-/// Where left strands go first, each strand to the left of a stamp has finished; and where each stamp exceeds the clock, what stands there came,
-/// and was ended, before it.
+/// If left strands go first, each strand to the left of a stamp has finished. If each stamp also exceeds the clock,
+/// what is to the left was made, and ended, before the stamp.
 pub fn left_strands_are_older()
     ensures older { LeftFirstAreOlder }
     ensures finished { LeftFirstHaveFinished }
 {}
 
-/// What a run leaves where no undo is under way: its journals, cancels, conflicts and rolled-back blocks are as they have to be, and in
-/// depth-first order they are a history.
+/// If no undo is under way, the journals, cancels, conflicts and rolled-back blocks that a run leaves are as they have
+/// to be. In depth-first order they are a history.
 pub fn histories_of_runs()
     ensures left { HistoriesAreLeft }
     ensures in_order { HistoriesAreInOrder }
     ensures any_time { ToldIsAtAnyTime }
 {}
 
-/// What is true of the tree, the journals, the cancels and the conflicts that a run leaves is true of them in depth-first order, each for
-/// itself.
+/// What is true of the tree, the journals, the cancels and the conflicts that a run leaves is true of them in
+/// depth-first order, of each by itself.
 pub fn closed_in_order()
     ensures cells { CellsStay }
     ensures journals { JournalsStay }
@@ -133,28 +137,29 @@ pub fn closed_in_order()
     ensures faults { FaultsStay }
 {}
 
-/// A run without its stops is a run: a strand that stopped stands where it ran.
+/// A run without its stops is a run: a strand that stopped is where it ran.
 pub fn stops_are_left_out()
     ensures stops { StopsAreLeftOut }
 {}
 
-/// A strand that has spent its budget, and after that made no step, has spent it in depth-first order too.
+/// A strand that has spent its budget, and made no step after that, has spent it in depth-first order too.
 pub fn spent_are_in_order()
     ensures spent { SpentAreInOrder }
 {}
 
-/// Two strands that run stand in parallel.
+/// The places of two strands that run are in parallel.
 pub fn places_part()
     ensures parallel { PlacesPart }
 {}
 
-/// A step of another leaves a strand running where it stands, with the blocks that it began, as free as it was, and rolling back if it did.
+/// A step of another strand leaves a running strand at its place, with the blocks that it began, as free as it was, and
+/// rolling back if it did.
 pub fn others_leave_alone()
     ensures alone { OthersLeaveAlone }
 {}
 
-/// A number that was drawn early stays what it was drawn for, after a step of another that does not bring it: the next stamp at the strand's
-/// place, in time, or the end of its block.
+/// A number that was drawn early stays what it was drawn for after a step of another strand that does not bring it: the
+/// next stamp at the strand's place, in time, or the end of its block.
 pub fn drawn_numbers_stay()
     ensures next { NextStampsStay }
     ensures drawn { DrawnStay }
@@ -174,8 +179,8 @@ impl Ruled for Brand {
     ghost rules = { at_once };
 }
 
-/// A run in time goes on step by step, with the times of its nodes: none is above the clock, and a number above the clock may be used next, or
-/// as an end, at any place.
+/// A run in time goes on step by step, with the times of its nodes. No time is above the clock. A number above the
+/// clock may be used next, or as an end, at any place.
 pub fn runs_go_on<R: Ruled>()
     ensures begin { RunsBegin R.rules }
     ensures on { RunsGoOn R.rules }
@@ -193,18 +198,19 @@ pub fn met_accesses_stay()
     ensures in_time { MetInTimeStays }
 {}
 
-/// Where the newest access of a cell conflicts, and a pending block stands in the way, that is as a conflict tells it.
+/// If the newest access of a cell conflicts, and a pending block stands in the way, a conflict can tell this.
 pub fn conflicts_are_told()
     ensures told { ConflictsAreTold }
 {}
 
-/// Each node beneath the place of a strand is of that strand, or beneath a fork that it made there and that was joined.
+/// Each node beneath the place of a strand is of that strand, or beneath a fork that the strand made there and that was joined.
 pub fn beneath_is_own()
     ensures own { BeneathIsOwn }
 {}
 
-/// Where both strands of a fork run and stand at themselves they may finish, and the fork may be joined. Then the strand that forked, where it
-/// waited for that alone, runs again where it forked, with the blocks that it had begun; others are left alone.
+/// If both strands of a fork run and are in no block of their own, they may finish, and the fork may be joined. If the
+/// strand that forked waited only for this fork, it then runs again where it forked, with the blocks that it had begun.
+/// Others are left alone.
 pub fn strands_join()
     ensures may { StrandsMayJoin }
     ensures again { ForkersRunAgain }
@@ -222,15 +228,16 @@ pub fn worked_runs()
     ensures left_strands { LeftStrands }
 {}
 
-/// What they say of small runs in which a step comes late: an access is refused for a block that has ended by then, and a block begins with
-/// a stamp that was drawn early. Both are histories. With an output of that strand before it, no run as told and in time leads there.
+/// What they say of small runs in which a step comes late: an access is refused for a block that has ended by then, and
+/// a block begins with a stamp that was drawn early. Both are histories. With an output of that strand before it, no
+/// run as told and in time leads there.
 pub fn worked_times()
     ensures late { RefusedLate }
     ensures early { DrawnEarly }
 {}
 
-/// What they say of a small run in which two strands step in turn, one of them with a number that it drew early. Where the other brings that
-/// number it is gone.
+/// What they say of a small run in which two strands step in turn, one of them with a number that it drew early. If the
+/// other brings that number, it is gone.
 pub fn worked_hands()
     ensures hands { TwoHands }
     ensures brought { BroughtByOther }
