@@ -1,4 +1,4 @@
--- The depth-first order: always the leftmost standing strand is picked.
+-- The depth-first order: always the leftmost strand that can go on is picked.
 use Rattle.std.specs.Prelude.{◌≡◌, ℕ, Bool, true, false, List, [], ◌∷◌, Option, Some, None, option_map, if◌then◌else◌}
 use Rattle.std.specs.Option.{option_or}
 use Rattle.cw_strand.specs.Strands.{Strands, is_over}
@@ -11,7 +11,7 @@ abbrev pub beneath : ℕ → Bool → Option (List Turn) → Option (List Turn)
 beneath k side p = option_map (λ q. record { fork = k; right = side } ∷ q) p
 
 module _ {A : Type 0} (s : Strands A) where
-  -- the leftmost strand that stands at a want, or at a fault
+  -- the leftmost strand that is at a want, or at a fault
   abbrev pub leftmost : StrandTree A → Option (List Turn)
   leftmost (stands k a) = if is_over (s.want a) then None else Some []
   leftmost (waits k l r) = option_or (beneath k false (leftmost l)) (beneath k true (leftmost r))

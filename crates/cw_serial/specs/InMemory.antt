@@ -1,4 +1,4 @@
--- What the machine in memory stands for.
+-- What the machine in memory means.
 use Rattle.std.specs.Prelude.{◌≡◌, ◌==◌, ◌<◌, ◌≤◌, ℕ, ℤ, suc, Bool, true, false, List, [], ◌∷◌, map, drop, length, slice_get, slice_set, Option, Some, None, if◌then◌else◌}
 use Rattle.std.specs.List.{AllZip}
 use Rattle.cw_strand.specs.declared.want.Want.{Want}
@@ -24,7 +24,7 @@ use Rattle.cw_serial.specs.TableInMemory.{root, left_name, right_name, Holds}
 abbrev pub names_in : Code → List Name
 names_in code = code.strands.names.items
 
--- these blocks were begun by the strands of these names
+-- the blocks were begun by the strands with these names
 abbrev pub AreBegun : List Name → List Block → List Begun → Type 0
 AreBegun names [] [] = Unit {0}
 AreBegun names (n ∷ ns) (q ∷ qs) = (steps_down names n.strand ≡ Some q.strand) × AreBegun names ns qs
@@ -32,31 +32,31 @@ AreBegun names ns qs = ⊥
 
 -- ## What begun blocks may put back
 
--- the memory before these writes, from that after them: they are undone, the newest first
+-- the memory before the writes, from that after them: they are undone, the newest first
 abbrev pub undone : List Write → List ℤ → List ℤ
 undone [] memory = memory
 undone (w ∷ ws) memory = slice_set (undone ws memory) w.element w.replaced
 
--- the memory before these writes, and what they wrote
+-- the memory before the writes, and what they wrote
 abbrev pub since_of : List Write → List ℤ → Since
 since_of ws memory = record { memory = undone ws memory; written = map (λ (w : Write). w.element) ws }
 
--- what an element held before the first of these writes that wrote it
+-- what an element held before the first of the writes that wrote it
 abbrev pub held_before : List Write → ℕ → Option ℤ
 held_before [] c = None
 held_before (w ∷ ws) c = if w.element == c then Some w.replaced else held_before ws c
 
--- A block may put this back: the writes since its begin are those from its place on.
+-- A block may put back x: the writes since its begin are those from position `b.writes` on.
 abbrev pub IsSince : List Write → List ℤ → Block → Since → Type 0
 IsSince ws memory b x = (b.writes ≤ length ws) × (x ≡ since_of (drop b.writes ws) memory)
 
--- the begun blocks may put these back in this memory
+-- what the begun blocks may put back in this memory
 abbrev pub AreSince : Undo → List ℤ → List Since → Type 0
 AreSince undo memory since = AllZip (IsSince undo.writes.items memory) undo.begun since
 
 -- ## The machine
 
--- The machine of the job is in this state.
+-- The machine of the job is in the state m.
 pub record IsMachine (job : Job) (code : Code) (m : Machine StrandState) : Type 0 where
   pub memory : m.memory ≡ code.memory.items
   pub outputs : m.outputs ≡ code.outputs.items
@@ -65,13 +65,13 @@ pub record IsMachine (job : Job) (code : Code) (m : Machine StrandState) : Type 
   pub begun : AreBegun (names_in code) code.undo.begun m.begun
   pub since : AreSince code.undo code.memory.items m.since
 
--- The strands of the machine are those of this program.
+-- The strands of the machine are those of the program.
 abbrev pub Runs : Program → Code → Type 0
 Runs program code = AreOf program code.strands.rows.items
 
--- The names of the strands that were started, in the order in which they were. Number 0 is the root; a strand's number is greater than
--- that of the one that started it; no two strands have the same name; both strands of a fork were started, and of each earlier one.
--- Each strand that stands at a want or is at its end is among them.
+-- The names of the strands that were started, in the order in which they were. Number 0 is the root. A strand's number
+-- is greater than that of the one that started it. No two strands have the same name. Both strands of a fork were
+-- started, and both of each earlier one. Each strand that is at a want or at its end is among them.
 pub record AreNames {A : Type 0} (s : Strands A) (names : List Name) (t : StrandTree A) : Type 0 where
   pub first : slice_get names 0 ≡ Some root
   pub parents : (j : ℕ) (n : Name) → slice_get names (suc j) ≡ Some n → n.parent < suc j
@@ -91,7 +91,7 @@ abbrev pub want_before_end : {A : Type 0} → Strands A → Option A → Option 
 want_before_end s None = None
 want_before_end s (Some a) = before_end (Some (s.want a))
 
--- a pick was made, or cannot be made
+-- a pick was made, or it cannot be made
 abbrev pub Picks : Job → Machine StrandState → Option (Machine StrandState) → Bool → Code → Type 0
 Picks job m (Some t) true new = IsMachine job new t
 Picks job m None false new = IsMachine job new m
@@ -99,26 +99,26 @@ Picks job m t moved new = ⊥
 
 -- ## A want
 
--- whether the innermost begun block is that of the strand of this number
+-- the innermost begun block is that of strand n
 abbrev pub is_own : ℕ → List Block → Bool
 is_own n [] = false
 is_own n (b ∷ blocks) = b.strand == n
 
--- the begun blocks after a want of the strand of that number, or none where it cannot be done
+-- the begun blocks after a want of strand n, or none if it cannot be done
 abbrev pub begun_after : Want → ℕ → Undo → Option (List Block)
 begun_after w n undo = blocks_after (record { strand = n; writes = length undo.writes.items }) (λ b. b.strand == n) w undo.begun
 
--- The begun blocks are those after a want of that strand in this memory, and so is what they may put back.
+-- The begun blocks are those after a want of strand n in this memory, and so is what they may put back.
 pub record BlocksFollow (w : Want) (n : ℕ) (memory : List ℤ) (old new : Undo) : Type 0 where
   pub begun : begun_after w n old ≡ Some new.begun
   pub since : (before : List Since) → AreSince old memory before → AreSince new (memory_after w memory) (since_after w memory before)
 
--- they are; or the want cannot be done, and nothing changed
+-- the undo follows the want, or the want cannot be done, and nothing changed
 abbrev pub UndoFollows : Want → ℕ → List ℤ → Undo → Bool → Undo → Type 0
 UndoFollows w n memory old true new = BlocksFollow w n memory old new
 UndoFollows w n memory old false new = (begun_after w n old ≡ None) × (new ≡ old)
 
--- A want of that strand was done, and this is for the strand.
+-- A want of strand n was done, and `given` is the answer to the strand.
 pub record IsDone (w : Want) (n : ℕ) (old : Code) (given : Given) (new : Code) : Type 0 where
   pub given_is : (since : List Since) → AreSince old.undo old.memory.items since → given ≡ answer_to w old.memory.items since
   pub memory : new.memory.items ≡ memory_after w old.memory.items
@@ -126,7 +126,7 @@ pub record IsDone (w : Want) (n : ℕ) (old : Code) (given : Given) (new : Code)
   pub undo : BlocksFollow w n old.memory.items old.undo new.undo
   pub strands : new.strands ≡ old.strands
 
--- a want of that strand was done; or it cannot be done, and nothing changed
+-- a want of strand n was done, or it cannot be done, and nothing changed
 abbrev pub DoesWant : Want → ℕ → Code → Option Given → Code → Type 0
 DoesWant w n old (Some given) new = IsDone w n old given new
 DoesWant w n old None new = (begun_after w n old.undo ≡ None) × (new ≡ old)

@@ -1,5 +1,6 @@
--- The machine with one memory, driven by picks. It does one want of a strand at each pick. While a block is begun, only strands inside
--- the innermost begun one may be picked, and only the strand that began it ends it or gives it up: so each block is done without a break.
+-- The machine with one memory, driven by picks. It does one want of a strand at each pick. While a block is begun, only
+-- strands inside the innermost begun one may be picked, and only the strand that began it ends it or gives it up. So
+-- each block is done without a break.
 use Rattle.std.specs.Prelude.{ℕ, ℤ, zero, suc, ◌==◌, ◌&&◌, Bool, true, false, not, List, [], ◌∷◌, ◌++◌, slice_get, nat_lt, Option, Some, None, option_map, is_some, unwrap_or, if◌then◌else◌}
 use Rattle.cw_strand.specs.declared.want.Want.{Want}
 use Rattle.cw_strand.specs.declared.want.Want.TheVariants.{Sync, Done, Fault}
@@ -50,7 +51,7 @@ may_pick (b ∷ bs) p = is_beneath b.strand p
 -- ## Picks
 
 module _ {A : Type 0} (s : Strands A) where
-  -- a strand of that name, which stands so, does what it wants; where that cannot be done, it cannot be picked
+  -- the strand a, which has the name p, does what it wants; it cannot be picked if that cannot be done
   abbrev pub does : Machine A → List Turn → A → Option (Machine A)
   does m p a =
       option_map (λ blocks. record {
@@ -88,19 +89,19 @@ abbrev pub root_turns : Option Name → Option (List Turn)
 root_turns None = None
 root_turns (Some n) = if is_root n then Some [] else None
 
--- the name of a strand that was started by one of this name, whose number has to be smaller
+-- the name of a strand that was started by the strand p, whose number has to be smaller
 abbrev pub with_turn : ℕ → Option Name → Option (List Turn) → Option (List Turn)
 with_turn n None p = None
 with_turn n (Some x) None = None
 with_turn n (Some x) (Some p) = if nat_lt x.parent n then Some (p ++ record { fork = x.fork; right = x.right } ∷ []) else None
 
--- the name that number n stands for, if the root is reached within k steps; the root is number 0, and stands there as the root
+-- the name that number n means, if the root is reached within k steps; the root is number 0, and is the root there
 abbrev pub turns_in : List Name → ℕ → ℕ → Option (List Turn)
 turns_in names k zero = root_turns (slice_get names 0)
 turns_in names zero (suc n) = None
 turns_in names (suc k) (suc n) = with_turn (suc n) (slice_get names (suc n)) (turns_in names k (parent_in (slice_get names (suc n))))
 
--- the name that a number stands for, or none
+-- the name that a number means, if it means one
 abbrev pub steps_down : List Name → ℕ → Option (List Turn)
 steps_down names n = turns_in names n n
 
@@ -117,7 +118,7 @@ module _ {A : Type 0} (s : Strands A) where
   stands_at name Done = None
   stands_at name w = Some (last.At name)
 
-  -- where the strand of that name stands, if it stands
+  -- the end at the want of the strand with this name, if there is such a strand
   abbrev pub end_of_strand : ℕ → Option A → Option SerialEnd
   end_of_strand name None = None
   end_of_strand name (Some a) = stands_at name (s.want a)
@@ -126,11 +127,11 @@ module _ {A : Type 0} (s : Strands A) where
   end_of_named m name None = None
   end_of_named m name (Some p) = end_of_strand name (at s m.strands p)
 
-  -- What the machine shows of itself where the picks are used up, so many of them, and the last of these names is that number.
+  -- What the machine shows of itself after `place` picks, if the last of these names is number `name`.
   abbrev pub machine_shows : Machine A → List Name → (name place : ℕ) → SerialEnd
   machine_shows m names name place = if has_ended s m then last.Finished m.memory m.outputs else unwrap_or (end_of_named m name (steps_down names name)) (last.Stuck place)
 
-  -- the end under the picks from one place on
+  -- the end under the picks from position `place` on
   abbrev pub play : Machine A → List Name → List ℕ → (name place : ℕ) → SerialEnd
   play m names [] name place = machine_shows m names name place
   play m names (n ∷ ns) name place = then_play (pick_named m (steps_down names n)) (λ t. play t names ns name (suc place)) where

@@ -20,7 +20,7 @@ pub record SameStrand (order names : List Name) (n i : ℕ) : Type 0 where
   pub here : steps_down order n ≡ Some path
   pub there : steps_down names i ≡ Some path
 
--- each number that is known is that of the strand of that name
+-- each number that is known is that of the strand with that name
 abbrev pub AreKnown : (order : List Name) → (numbers : List (Option ℕ)) → (names : List Name) → Type 0
 AreKnown order numbers names = (n i : ℕ) → slice_get numbers n ≡ Some (Some i) → SameStrand order names n i
 
@@ -32,7 +32,7 @@ abbrev pub root_number : Option Name → Option ℕ
 root_number None = None
 root_number (Some x) = if is_root x then Some 0 else None
 
--- the number of a name's strand, as far as it is known
+-- the number of the strand called n, as far as it is known
 abbrev pub known_number : List Name → List (Option ℕ) → ℕ → Option ℕ
 known_number order numbers zero = root_number (slice_get order 0)
 known_number order numbers (suc n) = known_of (slice_get numbers (suc n))
@@ -46,21 +46,21 @@ abbrev pub LeadDown : List Name → (from : ℕ) → List ℕ → (n : ℕ) → 
 LeadDown order from [] n = from ≡ n
 LeadDown order from (a ∷ rest) n = (x : Name) × (slice_get order a ≡ Some x) × (x.parent ≡ from) × (from < a) × LeadDown order a rest n
 
--- a name leads up to one whose strand is known; or it is none
+-- a name leads up to one whose strand is known, or it is no name
 abbrev pub LeadsUp : List Name → List (Option ℕ) → ℕ → Option ℕ → List ℕ → Type 0
 LeadsUp order numbers n None todo = (q : List Turn) → steps_down order n ≡ Some q → ⊥
 LeadsUp order numbers n (Some i) todo = (from : ℕ) × (known_number order numbers from ≡ Some i) × LeadDown order from todo n
 
--- no strand of that name stands in the machine
+-- no strand called n is at a want or at its end in the machine
 abbrev pub StandsNowhere : List Name → ℕ → Code → Type 0
 StandsNowhere order n code = (job : Job) (m : Machine StrandState) (q : List Turn) → IsMachine job code m → steps_down order n ≡ Some q → at (strands_of_job job) m.strands q ≡ None
 
--- what is found of a name: the number of its strand, or that none stands
+-- what is found for a name: the number of its strand, or that there is none
 abbrev pub Finds : List Name → ℕ → Code → Option ℕ → Type 0
 Finds order n code None = StandsNowhere order n code
 Finds order n code (Some i) = SameStrand order (names_in code) n i
 
--- the strand of that number, where there is one, is that of the name; or none of the name stands
+-- the strand with that number, if there is one, is that of the name; otherwise no strand has the name
 abbrev pub IsNamed : Job → Machine StrandState → Code → Option ℕ → Option (List Turn) → Type 0
 IsNamed job m code None None = Unit {0}
 IsNamed job m code None (Some q) = at (strands_of_job job) m.strands q ≡ None
@@ -73,19 +73,19 @@ at_named job m (Some q) = at (strands_of_job job) m.strands q
 
 -- ## A machine that is driven by the names of an order
 
--- The machine of the job is in this state, and what is known of these names is so there.
+-- The machine of the job is in the state m, and what is known of the names is true there.
 pub record IsPlay (job : Job) (names : List Name) (code : Play) (m : Machine StrandState) : Type 0 where
   pub machine : IsMachine job code.machine m
   pub order : code.known.order.now ≡ names
   pub known : AreKnown names code.known.numbers.items (names_in code.machine)
 
--- the pick of a name was made, or cannot be made
+-- the pick of a name was made, or it cannot be made
 abbrev pub Plays : Job → List Name → Machine StrandState → Option (Machine StrandState) → Bool → Play → Type 0
 Plays job names m (Some t) true new = IsPlay job names new t
 Plays job names m None false new = IsPlay job names new m
 Plays job names m t moved new = ⊥
 
--- how a run ends whose last strand wants this
+-- how a run ends whose last strand has this want
 abbrev pub end_from : Option Want → (name place : ℕ) → SerialEnd
 end_from None name place = last.Stuck place
 end_from (Some (Fault k)) name place = last.Fault name k

@@ -1,4 +1,4 @@
--- What the strands in memory stand for, over any law of strands, and whatever is kept of a strand.
+-- What the strands in memory mean, over any law of strands, and whatever is kept of a strand.
 use Rattle.std.specs.Prelude.{◌≡◌, ℕ, zero, suc, ◌<◌, Bool, false, true, List, [], ◌∷◌, ◌++◌, length, slice_get, slice_set, Option, Some, None, ◌⊎◌, ◌-◌, Contains}
 use Rattle.cw_strand.specs.declared.want.Want.{Want}
 use Rattle.cw_strand.specs.declared.want.Want.TheVariants.{Fork}
@@ -31,7 +31,7 @@ abbrev pub number_of : Sides → (right : Bool) → ℕ
 number_of x true = x.right
 number_of x false = x.left
 
--- the strands that are named first stay
+-- the names that were there stay, and others may follow
 abbrev pub IsFront : List Name → List Name → Type 0
 IsFront names more = (rest : List Name) × (more ≡ names ++ rest)
 
@@ -39,19 +39,19 @@ abbrev pub side_of : Bool → Option Sides → Option ℕ
 side_of right None = None
 side_of right (Some x) = Some (number_of x right)
 
--- whether a strand that wants this has come to its end
+-- a strand with this want has come to its end
 abbrev pub over_by : Option Want → Bool
 over_by None = false
 over_by (Some w) = is_over w
 
--- whether it takes an answer
+-- a strand with this want takes an answer
 abbrev pub answers_by : Option Want → Bool
 answers_by None = false
 answers_by (Some w) = takes_answer w
 
 module _ {S : Type 0} where
-  -- The root is number 0. Each other strand is one of the two of a fork of the strand that its name gives, whose number is smaller; and
-  -- the strands of each fork are numbered.
+  -- The root is number 0. Each other strand is one of the two of a fork of the strand that its name gives, whose number
+  -- is smaller. The strands of each fork are numbered.
   pub record StrandsAreNumbered (names : List Name) (rows : List (Row S)) : Type 0 where
     pub same : length names ≡ length rows
     pub first : slice_get names 0 ≡ Some root
@@ -68,7 +68,7 @@ module _ {S : Type 0} where
   strand_in_row None = None
   strand_in_row (Some r) = strand_in r.place
 
-  -- the strand that stands there
+  -- the strand i, if it is at a want or at its end
   abbrev pub strand_at : List (Row S) → ℕ → Option S
   strand_at rows i = strand_in_row (slice_get rows i)
 
@@ -80,7 +80,7 @@ module _ {S : Type 0} where
   awaited_of None = None
   awaited_of (Some r) = awaited_in r.place r.forks.items
 
-  -- the two strands that the strand there waits for
+  -- the two strands that strand i waits for
   abbrev pub awaited_at : List (Row S) → ℕ → Option Sides
   awaited_at rows i = awaited_of (slice_get rows i)
 
@@ -103,7 +103,7 @@ module _ {S : Type 0} where
     pub names : new.names.items ≡ old.names.items ++ name ∷ []
     pub rows : new.rows.items ≡ old.rows.items ++ row ∷ []
 
-  -- a strand is at another place
+  -- a strand was put at another place
   pub record Puts (old : Table S) (i : ℕ) (place former : Place S) (new : Table S) : Type 0 where
     pub row : Row S
     pub here : slice_get old.rows.items i ≡ Some row
@@ -111,7 +111,7 @@ module _ {S : Type 0} where
     pub names : new.names ≡ old.names
     pub rows : new.rows.items ≡ slice_set old.rows.items i (record row { place = place })
 
-  -- a strand made one more fork, of that number
+  -- a strand made one more fork, with the number `fork`
   pub record Notes (old : Table S) (i : ℕ) (sides : Sides) (fork : ℕ) (new : Table S) : Type 0 where
     pub row : Row S
     pub here : slice_get old.rows.items i ≡ Some row
@@ -123,7 +123,7 @@ module _ {S : Type 0} where
     pub rows : new.rows.items ≡ slice_set old.rows.items i more
 
 module _ {S A : Type 0} (state : S → A) where
-  -- A strand of so many forks is at this spot of the tree.
+  -- A strand with this number of forks is at this spot of the tree.
   abbrev pub IsSpotAt : Place S → ℕ → Option (Spot A) → Type 0
   IsSpotAt (Stands x) forks (Some (standing k a)) = (forks ≡ k) × (state x ≡ a)
   IsSpotAt Waits forks (Some (waiting k)) = (forks ≡ k) × (0 < k)
@@ -143,11 +143,11 @@ module _ {S A : Type 0} (s : Strands A) (state : S → A) where
   want_of None = None
   want_of (Some x) = Some (s.want (state x))
 
-  -- what the strand there wants
+  -- what strand i wants
   abbrev pub want_at : List (Row S) → ℕ → Option Want
   want_at rows i = want_of (strand_at rows i)
 
-  -- whether the strand there has come to its end
+  -- strand i has come to its end
   abbrev pub over_at : List (Row S) → ℕ → Bool
   over_at rows i = over_by (want_at rows i)
 
@@ -180,7 +180,7 @@ module _ {S A : Type 0} (s : Strands A) (state : S → A) where
     pub goes_left : state left ≡ s.left (state strand)
     pub goes_right : state right ≡ s.right (state strand)
 
-  -- a join is made of the two strands for which strand i waits
+  -- the two strands that strand i waits for are joined
   pub record Joins (old : Table S) (i : ℕ) (new : Table S) : Type 0 where
     pub sides : Sides
     pub left : S
@@ -196,24 +196,24 @@ module _ {S A : Type 0} (s : Strands A) (state : S → A) where
     pub goes_on : Puts two i (Stands joined) Waits new
     pub becomes : state joined ≡ s.joined (state right) (state left)
 
-  -- with this strand no fork can be made, and no join with the one beside it
+  -- strand i can make no fork, and no join with the other strand of its fork
   pub record Rests (old : Table S) (i : ℕ) : Type 0 where
     pub fork : want_at old.rows.items i ≡ Some Fork → ⊥
     pub join : (n : Name) (sides : Sides) → slice_get old.names.items i ≡ Some n → awaited_at old.rows.items n.parent ≡ Some sides
         → over_at old.rows.items i ≡ true → over_at old.rows.items sides.left ≡ true → over_at old.rows.items sides.right ≡ true → ⊥
 
-  -- a strand is looked at, and what can be done is done; these numbers are to be looked at then
+  -- a strand is looked at, and what can be done is done; the numbers in `more` are to be looked at then
   pub data Moves (old : Table S) (i : ℕ) (todo : List ℕ) (new : Table S) (more : List ℕ) : Type 0 where
     forks : (sides : Sides) → Forks old i new sides → more ≡ todo ++ sides.left ∷ sides.right ∷ [] → Moves old i todo new more
     joins : (name : Name) → slice_get old.names.items i ≡ Some name → over_at old.rows.items i ≡ true → Joins old name.parent new → more ≡ todo ++ name.parent ∷ [] → Moves old i todo new more
     rests : Rests old i → new ≡ old → more ≡ todo → Moves old i todo new more
 
-  -- where a fork or a join can be made, a number is to be looked at
+  -- if a fork or a join can be made, the number of a strand that makes it is to be looked at
   pub record Quiet (rows : List (Row S)) (todo : List ℕ) : Type 0 where
     pub fork : (i : ℕ) → want_at rows i ≡ Some Fork → Contains todo i
     pub join : (i : ℕ) (x : Sides) → awaited_at rows i ≡ Some x → over_at rows x.left ≡ true → over_at rows x.right ≡ true → Contains todo x.left ⊎ Contains todo x.right
 
-  -- The strands in memory are those of a tree that comes to t, once these numbers are looked at.
+  -- The strands in memory are those of a tree that becomes t when these numbers are looked at.
   pub record SettlesTo (table : Table S) (todo : List ℕ) (t : StrandTree A) : Type 0 where
     pub tree : StrandTree A
     pub holds : Holds state table tree

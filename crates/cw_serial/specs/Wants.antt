@@ -1,5 +1,5 @@
--- What a machine with one memory does where a strand wants something: to the memory, to the outputs, to the begun blocks and what these
--- may put back, and what it answers.
+-- What a machine with one memory does when a strand wants something: to the memory, to the outputs, to the begun blocks
+-- and what these may put back, and what it answers.
 use Rattle.std.specs.Prelude.{ℕ, ℤ, ◌==◌, Bool, List, [], ◌∷◌, ◌++◌, map, filter, length, slice_set, Option, Some, None, if◌then◌else◌}
 use Rattle.std.specs.List.{list_any}
 use Rattle.cw_code.specs.declared.Back.{Back}
@@ -24,7 +24,7 @@ was_written x c = list_any (λ d. d == c) x.written
 abbrev pub put_back_since : Since → List Back
 put_back_since x = map (λ c. record { cell = c; value = value_at x.memory c }) (filter (was_written x) (below (length x.memory)))
 
--- what the innermost of the begun blocks puts back where it is given up
+-- what the innermost of the begun blocks puts back if it is given up
 abbrev pub given_up : List Since → List Back
 given_up [] = []
 given_up (x ∷ xs) = put_back_since x
@@ -32,7 +32,8 @@ given_up (x ∷ xs) = put_back_since x
 abbrev pub with_write : ℕ → Since → Since
 with_write c x = record x { written = x.written ++ c ∷ [] }
 
--- The same after a want: a begin starts with this memory, a write counts in each begun block, and an end forgets the innermost one's.
+-- What blocks may put back after a want: a begin starts with this memory, a write counts in each begun block, and an
+-- end forgets the innermost one's.
 abbrev pub since_after : Want → List ℤ → List Since → List Since
 since_after Begin memory xs = record { memory = memory; written = [] } ∷ xs
 since_after (Store c v) memory xs = map (with_write c) xs
@@ -41,7 +42,7 @@ since_after w memory xs = xs
 
 -- ## What a want does
 
--- what a want is answered with from this memory, where the begun blocks may put this back
+-- the answer to a want from this memory, if the begun blocks may put back `since`
 abbrev pub answer_to : Want → List ℤ → List Since → Given
 answer_to (Load c) memory since = Value (value_at memory c)
 answer_to Cancel memory since = Wrote (given_up since)
@@ -55,9 +56,9 @@ abbrev pub outputs_after : Want → List ℤ → List ℤ
 outputs_after (Out v) outputs = outputs ++ v ∷ []
 outputs_after w outputs = outputs
 
--- The begun blocks after a want, the innermost first, where this one would begin, and those that are a strand's own are told. None where
--- the want cannot be done: a strand ends or gives up only a block of its own, and only the innermost one; forks and ends of strands are no
--- picks.
+-- The begun blocks after a want, the innermost first. `block` is the one that would begin, and `is_own` says which
+-- blocks are the strand's own. None if the want cannot be done: a strand ends or gives up only a block of its own, and
+-- only the innermost one. Forks and ends of strands are no picks.
 abbrev pub blocks_after : {B : Type 0} → (block : B) → (is_own : B → Bool) → Want → List B → Option (List B)
 blocks_after block is_own Begin blocks = Some (block ∷ blocks)
 blocks_after block is_own End (b ∷ blocks) = if is_own b then Some blocks else None

@@ -24,7 +24,7 @@ ending text names list name =
     let ds = tree text in
     serial_end (compiled ds [] (within 9 9)) (first_memory (cells_of ds)) (record { names = names; list = list; last = name })
 
--- one cell, to which one is added before it is shown
+-- one cell, to which one is added before it is output
 abbrev pub counts : List ℕ
 counts = codes "cell c; fn main() { c = c + 1; out c; }"
 
@@ -47,7 +47,7 @@ both list name =
     let names = root ∷ left_name 0 1 ∷ right_name 0 1 ∷ [] in
     ending (codes "cell c; fn main() { atomic { spawn { c = c + 1; } c = c + 1; } }") names list name
 
--- an update that is lost, none that is lost, the block's end before its strands', and the right strand where it stands
+-- a lost update, no lost update, the end of the block before those of its strands, and the right strand at its want
 abbrev pub StrandEnds : Type 0
 StrandEnds =
     (both (0 ∷ 1 ∷ 2 ∷ 1 ∷ 2 ∷ 0 ∷ []) 0 ≡ last.Finished (pos 1 ∷ []) [])
@@ -63,7 +63,7 @@ newer text names list name =
     let ds = newer_tree text in
     serial_end (compiled ds [] (within 29 19)) (first_memory (cells_of ds)) (record { names = names; list = list; last = name })
 
--- by so many picks of main
+-- by n picks of main
 abbrev pub alone : List ℕ → ℕ → SerialEnd
 alone text n = newer text (root ∷ []) (replicate n 0) 0
 
@@ -74,7 +74,7 @@ nested = codes "cell c; cell d; fn main() { atomic { c = 1; atomic { c = 2; canc
 abbrev pub elements : List ℕ
 elements = codes "cell a[3] = 4; cell b; fn main() { atomic { b = 1; a[2] = 7; a[0] = a[2]; a[2] = 8; let x = a[1]; cancel; } }"
 
--- What was shown stays, and so do locals, but for those of the block; nothing behind the cancel is done.
+-- What was output stays, and so do locals, except those of the block. Nothing behind the cancel is done.
 abbrev pub CancelEnds : Type 0
 CancelEnds =
     (alone (codes "cell c = 5; fn main() { atomic { c = 9; out c; cancel; out 1; } out c; }") 9 ≡ last.Finished (pos 5 ∷ []) (pos 9 ∷ pos 5 ∷ []))
@@ -85,19 +85,20 @@ CancelEnds =
     × (newer (codes "cell c; cell d; fn main() { atomic { spawn { c = 1; } c = 2; cancel; } }") (root ∷ left_name 0 1 ∷ right_name 0 1 ∷ []) (0 ∷ 1 ∷ 2 ∷ 0 ∷ 0 ∷ 0 ∷ []) 0 ≡ last.Finished (pos 0 ∷ pos 0 ∷ []) [])
 
 module _ {A : Type 0} (s : Strands A) (memory : List ℤ) where
-  -- the machine once main was picked so often
+  -- the machine after this number of picks of main
   abbrev pub picked : ℕ → Option (Machine A)
   picked zero = Some (initial s memory)
   picked (suc n) = option_and_then (λ m. pick s m []) (picked n)
 
-  -- what its innermost begun block puts back where it is given up, and what main wants
+  -- what its innermost begun block puts back if it is given up, and what main wants
   abbrev pub shown : ℕ → Option (List Back × Option Want)
   shown n = option_map (λ m. (given_up m.since, option_map s.want (at s m.strands []))) (picked n)
 
 abbrev pub after : List ℕ → ℕ → Option (List Back × Option Want)
 after text n = let ds = newer_tree text in shown (compiled ds [] (within 29 19)) (first_memory (cells_of ds)) n
 
--- Each element that was written since the begin is put back, by rising number, with what it held there; of a block that only reads, none.
+-- Each element that was written since the begin is put back, by rising number, with what it held there. A block that
+-- only reads puts nothing back.
 abbrev pub CancelLists : Type 0
 CancelLists =
     (after nested 4 ≡ Some (back 0 (pos 1) ∷ [], Some Cancel))

@@ -1,8 +1,8 @@
 use cw_base::Seq;
 use cw_code::FaultKind;
 
-/// How the machine ended. In `Fault` and `At`, `name` is the last strand of the picks. In `Stuck`, `place` is that of the
-/// first pick that cannot be made, or the number of picks.
+/// How the machine ended. In `Fault` and `At`, `name` is the last strand of the picks. In `Stuck`, `place` is the
+/// position of the first pick that cannot be made, or the number of picks.
 #[derive(Drop)]
 pub enum SerialEnd {
     Finished { memory: Seq<i64>, outputs: Seq<i64> },

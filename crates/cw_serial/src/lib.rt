@@ -1,8 +1,8 @@
-//! The machine with one memory, which runs the strands of a program, and its end under given picks.
-//! Stands on `cw_base`, `cw_code`, `cw_strand`, `cw_job` and `cw_tree`.
+//! The machine with one memory, which runs the strands of a program, and its end under given picks. Use it to replay an
+//! order of picks, or to say in a contract what a replay gives.
 //! Contracts cite `specs/StrandTree.antt`, `specs/Wants.antt` and `specs/Machine.antt` (the machine, over any strands),
-//! `specs/MachineOf.antt` (that of a job), `specs/Forks.antt` (how forks and joins are made), `specs/InMemory.antt` with
-//! `specs/TableInMemory.antt`, `specs/Spots.antt` and `specs/AreOf.antt` (what the machine in memory stands for), and
+//! `specs/MachineOf.antt` (that of a job), `specs/Forks.antt` (how forks and joins are made), `specs/InMemory.antt`
+//! with `specs/TableInMemory.antt`, `specs/Spots.antt` and `specs/AreOf.antt` (what the machine in memory means), and
 //! `specs/Orders.antt` (the strands that an order names).
 #![tactic(auto)]
 
@@ -37,8 +37,8 @@ pub fn worked_runs()
     ensures crossing { CrossingEnds }
 {}
 
-/// A strand that wants a fork makes it at once, and where both its strands have ended the strand that forked goes on, however many
-/// forks and joins follow each other.
+/// A strand that wants a fork makes it at once. After both its strands have ended, the strand that forked goes on,
+/// however many forks and joins follow each other.
 pub fn forks_are_made()
     ensures { (job : Job) → ForksAreMade (strands_of_job job) }
 {}

@@ -11,7 +11,8 @@ use cw_code::Back;
 use cw_strand::{Given, Want};
 use std::alloc::Global;
 
-/// The machine with one memory, of a program with the words of its command and its limits. A strand is named by its number among the strands that were started.
+/// The machine with one memory, for a program with the words of its command and its limits. A strand is named by its
+/// number among the strands that were started.
 #[derive(Drop)]
 pub struct Machine {
     alloc: Global,
@@ -34,8 +35,8 @@ impl Machine {
     ghost use Rattle.cw_serial.specs.Orders.{IsNamed, at_named};
     ghost use Rattle.cw_serial.specs.InMemory.{IsMachine, Runs, names_in, AreNames, Picks, DoesWant, want_before_end};
 
-    /// The machine before the first pick. More than 4,294,967,295 strands, whose numbers no name can give, are answered as want of
-    /// memory, here and at each pick.
+    /// Returns the machine before the first pick. If there are more than 4,294,967,295 strands, whose numbers no name
+    /// can give, it returns out of memory, and so does each pick.
     pub fn new(
         alloc: Global,
         program: &Program,
@@ -58,7 +59,7 @@ impl Machine {
         })
     }
 
-    /// The names of the strands that were started, in the order in which they were: a strand's number is its place here.
+    /// The names of the strands that were started, in the order in which they were. The position of a name is the strand's number.
     pub fn names(&self) -> &[Name]
         ensures items { result.now ≡ names_in self.now }
         ensures names { (job : Job) (m : State_of StrandState) → IsMachine job self.now m →
@@ -67,7 +68,7 @@ impl Machine {
         self.strands.names.as_slice()
     }
 
-    /// What a strand wants. Nothing where it waits for its fork or has come to its end, or where no strand has this number.
+    /// What a strand wants. `None` if it waits for its fork or has ended, or if no strand has the number.
     pub fn at(&self, strand: u32) -> Option<Want>
         ensures wants { (job : Job) (m : State_of StrandState) (q : List Turn) → IsMachine job self.now m →
             steps_down (names_in self.now) strand ≡ Some q →
@@ -85,14 +86,14 @@ impl Machine {
         self.memory.as_slice()
     }
 
-    /// What the innermost begun block puts back where it is given up now.
+    /// Returns what the innermost begun block would put back if it were given up now.
     pub fn given_up(&self) -> Result<Seq<Back>, OutOfMemory>
         ensures { IfOk result (λ list. (job : Job) (m : State_of StrandState) → IsMachine job self.now m → list ≡ given_up m.since) }
     {
         self.undo.given_up(self.alloc, &self.memory)
     }
 
-    /// What was shown so far.
+    /// What was output so far.
     pub fn outputs(&self) -> &[i64]
         ensures { (job : Job) (m : State_of StrandState) → IsMachine job self.now m → m.outputs ≡ result.now }
     {
@@ -106,8 +107,8 @@ impl Machine {
         self.strands.is_over(0)
     }
 
-    /// Makes a pick of a strand, or answers false where it cannot be picked, with nothing changed. A number that no strand has cannot be
-    /// picked. The program is the one that the machine was made of. After an error the machine can only be dropped.
+    /// Picks a strand. Returns false, with nothing changed, if it cannot be picked or no strand has the number.
+    /// `program` is the one that the machine was made of. After an error the machine can only be dropped.
     pub fn pick(&mut self, program: &Program, strand: u32) -> Result<bool, OutOfMemory>
         requires { Runs program.now self.old }
         ensures picks { IfOk result (λ moved. (job : Job) (m : State_of StrandState) (q : List Turn) → job.program ≡ program.now →
@@ -133,7 +134,7 @@ impl Machine {
         Ok(true)
     }
 
-    /// What it shows of itself where the picks are used up, so many of them, and the last strand is this one, or none.
+    /// The end of the machine after `place` picks, if the last strand is `strand`, with the number `name` in the order.
     pub(crate) fn shown(self, strand: Option<u32>, name: u32, place: u32) -> SerialEnd
         ensures { (job : Job) (m : State_of StrandState) (o : Option (List Turn)) → IsMachine job self m →
             IsNamed job m self strand o →
@@ -149,7 +150,7 @@ impl Machine {
         end_from(self.want_of(strand), name, place)
     }
 
-    /// What a strand wants, where there is one.
+    /// What a strand wants, if there is one.
     pub(crate) fn want_of(&self, strand: Option<u32>) -> Option<Want>
         ensures { (job : Job) (m : State_of StrandState) (o : Option (List Turn)) → IsMachine job self.now m →
             IsNamed job m self.now strand o → result ≡ want_before_end (strands_of_job job) (at_named job m o) }
@@ -178,7 +179,7 @@ impl Machine {
         self.strands.started(name)
     }
 
-    /// Does what a strand wants, where that can be done, and answers what the strand is given.
+    /// Does what a strand wants and returns what the strand is given. Returns `None` if the want cannot be done.
     fn do_want(&mut self, strand: u32, want: Want) -> Result<Option<Given>, OutOfMemory>
         ensures { IfOk result (λ given. DoesWant want strand self.old given self.new) }
     {
@@ -206,7 +207,7 @@ impl Machine {
     }
 }
 
-/// A want, unless it is an end.
+/// The want, unless it is an end.
 fn unless_ended(want: Option<Want>) -> Option<Want>
     ensures { result ≡ before_end want }
 {
@@ -216,7 +217,7 @@ fn unless_ended(want: Option<Want>) -> Option<Want>
     }
 }
 
-/// How a run ends whose last strand wants this.
+/// How a run ends whose last strand has this want.
 fn end_from(want: Option<Want>, name: u32, place: u32) -> SerialEnd
     ensures { result ≡ end_from want name place }
 {

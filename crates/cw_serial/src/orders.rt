@@ -19,7 +19,7 @@ impl<'n> Known<'n> {
     ghost use Rattle.cw_serial.specs.InMemory.{names_in};
     ghost use Rattle.cw_serial.specs.Orders.{AreKnown, SameStrand, known_number, parent_number, root_number, LeadsUp, LeadDown, Finds};
 
-    /// Nothing is known yet.
+    /// Returns what is known before anything was asked for: nothing.
     pub fn new(alloc: Global, order: &'n [Name]) -> Result<Known<'n>, OutOfMemory>
         ensures order { IfOk result (λ k. k.order.now ≡ order.now) }
         ensures known { IfOk result (λ k. (names : List Named) → AreKnown order.now k.numbers.items names) }
@@ -31,7 +31,7 @@ impl<'n> Known<'n> {
         Ok(Known { order, numbers })
     }
 
-    /// The number of a name's strand, if that was started.
+    /// Returns the number of the strand called `name`, if it was started.
     pub fn number(
         &mut self,
         alloc: Global,
@@ -52,7 +52,7 @@ impl<'n> Known<'n> {
         Ok(self.descend(machine, number, todo))
     }
 
-    /// The number of the nearest strand above a name that is known, with the names from there down to it.
+    /// Returns the number of the nearest strand above `name` that is known. Pushes the names from there down to `name` on `todo`.
     fn climb(&self, name: u32, todo: &mut Stack<u32>) -> Result<Option<u32>, OutOfMemory>
         requires { todo.old ≡ [] }
         ensures { IfOk result (λ found. LeadsUp self.now.order.now self.now.numbers.items name found todo.new) }
@@ -70,7 +70,7 @@ impl<'n> Known<'n> {
         }
     }
 
-    /// The number of the strand to which these names lead down, if that was started.
+    /// Returns the number of the strand to which the names of `todo` lead down from `number`, if it was started.
     fn descend(&mut self, machine: &Machine, number: u32, mut todo: Stack<u32>) -> Option<u32>
         ensures order { self.new.order.now ≡ self.old.order.now }
         ensures found { StrandsAreNumbered (names_in machine.now) machine.now.strands.rows.items →
@@ -97,7 +97,7 @@ impl<'n> Known<'n> {
         Some(above)
     }
 
-    /// The number of a name's strand is known from now on.
+    /// Notes the number of the strand called `name`.
     fn note(&mut self, name: u32, number: u32)
         ensures order { self.new.order ≡ self.old.order }
         ensures numbers { self.new.numbers.items ≡ slice_set self.old.numbers.items name (Some number) }
@@ -107,7 +107,7 @@ impl<'n> Known<'n> {
         }
     }
 
-    /// The number of a name's strand, where it is known.
+    /// The number of the strand called `name`, if it is known.
     fn known(&self, name: u32) -> Option<u32>
         ensures { result ≡ known_number self.now.order.now self.now.numbers.items name }
     {
@@ -117,7 +117,7 @@ impl<'n> Known<'n> {
         *self.numbers.get(name as usize)?
     }
 
-    /// The number of the root, where the order begins with it.
+    /// The number of the root, if the order begins with it.
     fn root(&self) -> Option<u32>
         ensures { result ≡ root_number (slice_get self.now.order.now 0) }
     {
@@ -135,7 +135,7 @@ impl<'n> Known<'n> {
         self.order.get(name as usize).copied()
     }
 
-    /// The parent of a name, whose number has to be smaller.
+    /// The parent of a name. Its number has to be smaller.
     fn parent(&self, name: u32) -> Option<u32>
         ensures { result ≡ parent_number (slice_get self.now.order.now name) name }
     {

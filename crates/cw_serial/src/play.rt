@@ -12,7 +12,7 @@ use cw_code::Back;
 use cw_strand::Want;
 use std::alloc::Global;
 
-/// The machine with one memory, driven by the names of an order: a strand is named by its number there.
+/// The machine with one memory, driven by the names of an order. A strand is named by its number there.
 #[derive(Drop)]
 pub struct Play<'n> {
     alloc: Global,
@@ -29,7 +29,7 @@ impl<'n> Play<'n> {
     ghost use Rattle.cw_serial.specs.Orders.{at_named, Plays};
     ghost use Rattle.cw_job.specs.Room.Strands.{StrandState, strands_of_job};
 
-    /// The machine before the first pick.
+    /// Returns the machine before the first pick.
     pub fn new(
         alloc: Global,
         program: &Program,
@@ -58,7 +58,7 @@ impl<'n> Play<'n> {
         self.machine.memory()
     }
 
-    /// What the innermost begun block puts back where it is given up now.
+    /// Returns what the innermost begun block would put back if it were given up now.
     pub fn given_up(&self) -> Result<Seq<Back>, OutOfMemory>
         ensures { IfOk result (λ list. (job : Job) (names : List Named) (m : State_of StrandState) → IsPlay job names self.now m →
             list ≡ given_up m.since) }
@@ -66,8 +66,7 @@ impl<'n> Play<'n> {
         self.machine.given_up()
     }
 
-    /// What the strand of a name wants. Nothing where it waits for its fork, has come to its end or was not started, or where the
-    /// number is no name.
+    /// What the strand called `name` wants. `None` if it waits for its fork, has ended or was not started, or if the number is no name.
     pub fn at(&mut self, name: u32) -> Result<Option<Want>, OutOfMemory>
         ensures want { IfOk result (λ want. (job : Job) (names : List Named) (m : State_of StrandState) → IsPlay job names self.old m →
             want ≡ want_before_end (strands_of_job job) (at_named job m (steps_down names name))) }
@@ -79,7 +78,7 @@ impl<'n> Play<'n> {
         Ok(self.machine.want_of(strand))
     }
 
-    /// Makes the pick of the strand of a name, or answers false where it cannot be made, with the machine as it was. The program is
+    /// Picks the strand called `name`. Returns false, with the machine as it was, if it cannot be picked. `program` is
     /// the one that the machine was made of. After an error the machine can only be dropped.
     pub fn pick(&mut self, program: &Program, name: u32) -> Result<bool, OutOfMemory>
         requires { Runs program.now self.old.machine }
@@ -94,7 +93,7 @@ impl<'n> Play<'n> {
         self.machine.pick(program, strand)
     }
 
-    /// The end where the picks are used up, so many of them, and the last name is this one.
+    /// Returns the end of the machine after `place` picks, if the last name is `last`.
     pub fn end(self, last: u32, place: u32) -> Result<SerialEnd, OutOfMemory>
         ensures { IfOk result (λ e. (job : Job) (names : List Named) (m : State_of StrandState) → IsPlay job names self.entry m →
             e ≡ machine_shows (strands_of_job job) m names last place) }
@@ -109,8 +108,8 @@ impl<'n> Play<'n> {
     }
 }
 
-/// The end of the machine with one memory under these picks, whatever they are. More than 4,294,967,295 picks or strands, whose
-/// number no end and no name can give, are answered as want of memory.
+/// Returns the end of the machine with one memory under `picks`, whatever they are. More than 4,294,967,295 picks or
+/// strands, whose number no end and no name can give, are reported as out of memory.
 pub fn serial(
     alloc: Global,
     program: &Program,

@@ -7,14 +7,14 @@ use cw_strand::{Given, Want};
 use std::alloc::Global;
 use std::mem;
 
-/// Where a strand is.
+/// What a strand is doing.
 #[derive(Drop)]
 pub enum Place<S> {
-    /// At a want; or it has ended, and the strand beside it has not.
+    /// It is at a want, or it has ended and the other strand of its fork has not.
     Stands(S),
     /// It waits for the two strands of its newest fork.
     Waits,
-    /// It has ended, and so has the strand beside it: the strand that forked goes on.
+    /// It has ended, and so has the other strand of its fork: the strand that forked goes on.
     Gone,
 }
 
@@ -57,7 +57,7 @@ impl<S: Drop> Table<S> {
         Ok(())
     }
 
-    /// Whether a strand is the other one, or was started beneath it.
+    /// Whether the strand `number` is the strand `above`, or was started beneath it.
     pub fn is_beneath(&self, above: u32, number: u32) -> bool
         ensures { StrandsAreNumbered self.now.names.items self.now.rows.items → (q z : List Turn) →
             steps_down self.now.names.items above ≡ Some q → steps_down self.now.names.items number ≡ Some z →
@@ -76,7 +76,7 @@ impl<S: Drop> Table<S> {
         at == above
     }
 
-    /// The name of the strand of this number.
+    /// The name of the strand with the number `number`.
     pub fn name(&self, number: u32) -> Option<Name>
         ensures { result ≡ slice_get self.now.names.items number }
     {
@@ -93,7 +93,7 @@ impl<S: Drop> Table<S> {
         Some(if name.right { sides.right } else { sides.left })
     }
 
-    /// The two strands for which a strand waits.
+    /// The two strands that a strand waits for.
     fn awaited(&self, number: u32) -> Option<Sides>
         ensures { result ≡ awaited_at self.now.rows.items number }
     {
@@ -104,7 +104,7 @@ impl<S: Drop> Table<S> {
         }
     }
 
-    /// The numbers of the next two strands. More than 4,294,967,295 strands are answered as want of memory.
+    /// Returns the numbers of the next two strands. More than 4,294,967,295 strands are reported as out of memory.
     fn next_sides(&self) -> Result<Sides, OutOfMemory>
         ensures { IfOk result (λ x. x.left ≡ length self.now.names.items) }
     {
@@ -113,7 +113,7 @@ impl<S: Drop> Table<S> {
         Ok(Sides { left, right })
     }
 
-    /// Puts a strand at another place, and answers where it was.
+    /// Sets the place of a strand and returns the former one.
     fn put(&mut self, number: u32, place: Place<S>) -> Place<S>
         requires { number < vec_len self.old.rows }
         ensures { Puts self.old number place result self.new }
@@ -122,7 +122,7 @@ impl<S: Drop> Table<S> {
         mem::replace(&mut row.place, place)
     }
 
-    /// Notes one more fork of a strand, and answers which one it is, counted from 1.
+    /// Notes one more fork of a strand and returns which one it is, counted from 1.
     fn note(&mut self, number: u32, sides: Sides) -> Result<u32, OutOfMemory>
         requires { number < vec_len self.old.rows }
         ensures { IfOk result (λ fork. Notes self.old number sides fork self.new) }
@@ -144,7 +144,7 @@ impl Table<Standing> {
     ghost use Rattle.cw_serial.specs.TableInMemory.{AnswersStrand, answers_by, Moves, SettlesTo, Holds, IsFront, want_at, over_at};
     ghost use Rattle.cw_serial.specs.AreOf.{AreOf};
 
-    /// The strand of main alone, with its forks made.
+    /// Returns the table with the strand of main alone, with its forks made.
     pub fn of_main(
         alloc: Global,
         program: &Program,
@@ -172,7 +172,7 @@ impl Table<Standing> {
         Ok(table)
     }
 
-    /// What the strand of this number wants, where it stands.
+    /// The want of the strand with the number `number`, if it is at one.
     pub fn want(&self, number: u32) -> Option<Want>
         ensures { (job : Job) → result ≡ want_at (strands_of_job job) state_of self.now.rows.items number }
     {
@@ -183,14 +183,14 @@ impl Table<Standing> {
         }
     }
 
-    /// Whether a strand has come to its end, and waits for the one beside it.
+    /// Whether a strand has ended, and waits for the other strand of its fork.
     pub fn is_over(&self, number: u32) -> bool
         ensures { (job : Job) → result ≡ over_at (strands_of_job job) state_of self.now.rows.items number }
     {
         matches!(self.want(number), Some(Want::Sync | Want::Done))
     }
 
-    /// The strand of this number goes on to its next want, once this one is answered.
+    /// Answers the want of the strand `number`, which goes on to its next want.
     pub fn answer(
         &mut self,
         number: u32,
@@ -211,7 +211,7 @@ impl Table<Standing> {
         Ok(())
     }
 
-    /// Makes all forks and joins that can be made, where that is so only for the strand of this number.
+    /// Makes all forks and joins that can be made, if at first only the strand `number` can make any.
     pub fn settle(
         &mut self,
         alloc: Global,
@@ -233,7 +233,8 @@ impl Table<Standing> {
         Ok(())
     }
 
-    /// Looks at a strand: makes its fork, or the join with the strand beside it. Then these are to be looked at, too.
+    /// Makes the fork that a strand wants, or its join with the other strand of its fork. Adds to `todo` the strands
+    /// that have to be looked at next.
     fn advance(
         &mut self,
         alloc: Global,
@@ -299,7 +300,7 @@ impl Table<Standing> {
         Ok(())
     }
 
-    /// Makes the join of a strand that has ended with the one beside it, where that has ended, too.
+    /// Joins a strand that has ended with the other strand of its fork, if that has ended too.
     fn join(
         &mut self,
         number: u32,

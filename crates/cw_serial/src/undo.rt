@@ -26,8 +26,8 @@ pub struct Begun {
     pub writes: usize,
 }
 
-/// The begun blocks, and the writes since the outermost of them began, the oldest first: so a begin copies nothing, and a block is given
-/// up by the writes since its begin alone.
+/// The begun blocks, and the writes since the outermost of them began, the oldest first. So a begin copies nothing, and
+/// giving up a block takes only the writes since its begin.
 #[derive(Drop)]
 pub struct Undo {
     pub begun: Stack<Begun>,
@@ -49,7 +49,7 @@ impl Undo {
         }
     }
 
-    /// Whether the innermost begun block is that strand's own.
+    /// Whether the innermost begun block is the strand's own.
     fn is_own(&self, strand: u32) -> bool
         ensures { result ≡ is_own strand self.now.begun }
     {
@@ -58,8 +58,8 @@ impl Undo {
             .is_some_and(|block| block.strand == strand)
     }
 
-    /// Follows a want of that strand, before it is done in the memory: a block begins or ends, and while one is begun, what a write replaces
-    /// is kept. Answers false where the want cannot be done, with nothing changed.
+    /// Follows a want of `strand` before it is done in the memory: a block begins or ends, and while one is begun, what
+    /// a write replaces is kept. Returns false, with nothing changed, if the want cannot be done.
     pub fn follow(&mut self, strand: u32, want: Want, memory: &[i64]) -> Result<bool, OutOfMemory>
         ensures follows { IfOk result (λ done. UndoFollows want strand memory.now self.old done self.new) }
         ensures few { OnOk result ((self.old.begun ≡ [] → self.old.writes.items ≡ []) → self.new.begun ≡ [] → self.new.writes.items ≡ []) }
@@ -84,7 +84,7 @@ impl Undo {
         }
     }
 
-    /// Ends the innermost block, where it is that strand's own. Once the outermost one has ended no write is kept.
+    /// Ends the innermost block, if it is the strand's own. After the outermost one has ended, no write is kept.
     fn end(&mut self, strand: u32) -> bool
         ensures follows { (memory : List ℤ) → UndoFollows Want.End strand memory self.old result self.new }
         ensures few { (self.old.begun ≡ [] → self.old.writes.items ≡ []) → self.new.begun ≡ [] → self.new.writes.items ≡ [] }
@@ -99,7 +99,7 @@ impl Undo {
         true
     }
 
-    /// What the innermost begun block puts back where it is given up.
+    /// Returns what the innermost begun block would put back if it were given up.
     pub fn given_up(&self, alloc: Global, memory: &[i64]) -> Result<Seq<Back>, OutOfMemory>
         ensures { IfOk result (λ list. (since : List Since) → AreSince self.now memory.now since → list ≡ given_up since) }
     {
@@ -111,7 +111,7 @@ impl Undo {
     }
 }
 
-/// What is put back to undo these writes in the memory.
+/// Returns what is put back to undo `writes` in the memory.
 fn put_back(alloc: Global, writes: &[Write], memory: &[i64]) -> Result<Seq<Back>, OutOfMemory>
     ensures { IfOk result (λ list. list ≡ put_back_since (since_of writes.now memory.now)) }
 {
@@ -126,7 +126,8 @@ fn put_back(alloc: Global, writes: &[Write], memory: &[i64]) -> Result<Seq<Back>
     Ok(list)
 }
 
-/// What each element held before the first of these writes that wrote it. Only so many elements are there; others are left out.
+/// Returns what each element held before the first of `writes` that wrote it. Elements from number `elements` on do not
+/// exist and are left out.
 fn held_before(
     alloc: Global,
     writes: &[Write],
