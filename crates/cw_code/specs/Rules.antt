@@ -65,7 +65,7 @@ operand_faults c f p i (Some fork) = when (not (is_target c f p i.a)) JumpOut p
 operand_faults c f p i (Some call) = when (not (is_number_below i.a (length c.funcs))) JumpOut p
 operand_faults c f p i e = []
 
--- ## What stands at a place
+-- ## Situations
 
 abbrev pub params_of : Option Func → ℕ
 params_of None = 0

@@ -34,7 +34,7 @@ pub record Verdicts : Type 0 where
   -- A tick is entered only by a backward jump. Then a loop in which the stack grows.
   pub from_behind : faults (code (jump 3 ∷ tick ∷ ret ∷ push (pos 0) ∷ jump 1 ∷ [])) ≡ []
   pub growing : faults (code (tick ∷ push (pos 3) ∷ jump 0 ∷ [])) ≡ fault Uneven 0 ∷ []
-  -- A fork to the place behind it
+  -- a fork to the place behind it
   pub to_the_next : faults (code (fork 1 ∷ done ∷ [])) ≡ fault Uneven 1 ∷ fault Uneven 1 ∷ []
   -- blocks that are cancelled
   pub outside : faults (code (cancel ∷ push (pos 0) ∷ ret ∷ [])) ≡ fault Uneven 0 ∷ []
