@@ -145,7 +145,7 @@ module _ (code : Code) where
   act push i p vs s = on (goes_to p (i.a ∷ vs) s)
   act local i p vs s = read_local (slice_get s.current.locals (index i.a)) p vs s
   act set i p (v ∷ vs) s = write_local (index i.a) v p vs s
-  -- A zero holds the place of the value that is loaded
+  -- a zero holds the place of the value that is loaded
   act load i p vs s = counts (Load (index i.a)) (goes_to p (pos 0 ∷ vs) s)
   act load_at i p (n ∷ vs) s = in_range i.b n s (counts (Load (index i.a + index n)) (goes_to p (pos 0 ∷ vs) s))
   act store i p (v ∷ vs) s = counts (Store (index i.a) v) (goes_to p vs s)
@@ -190,7 +190,7 @@ module _ (code : Code) where
   abbrev pub rank : ℕ → ℕ
   rank p = if is_tick (slice_get code.instrs p) then 0 else suc (length code.instrs - p)
 
-  -- A bound on the steps by itself if nothing is to be written back: a tick and a call spend fuel, a return leaves a
+  -- a bound on the steps by itself if nothing is to be written back: a tick and a call spend fuel, a return leaves a
   -- caller, any other step comes nearer to the end
   abbrev pub steps_left : State → ℕ
   steps_left s = (length code.instrs + 2) * (2 * (s.limits.fuel - s.fuel) + length s.callers) + rank s.current.place

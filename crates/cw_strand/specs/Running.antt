@@ -34,18 +34,18 @@ pub record Running (S : Type 0) : Type 0 where
   pub bound : S → ℕ
 
 module _ {S : Type 0} (r : Running S) where
-  -- where a step leads; `go` says how a state goes on by itself, and a strand that lacks what it needs is done
+  -- what a strand reaches by a step; `go` says how a state goes on by itself, and a strand that lacks what it needs is done
   abbrev pub stand_by : S → LocalStep S → (S → Standing S) → Standing S
   stand_by s (on t) go = go t
   stand_by s (wants w t) go = record { want = w; state = t }
   stand_by s stuck go = record { want = Done; state = s }
 
-  -- where a state leads by at most n steps by itself, and one step more
+  -- what a state reaches by at most n steps by itself, and one step more
   abbrev pub stand_within : ℕ → S → Standing S
   stand_within zero s = stand_by s (r.step s) (λ t. record { want = Done; state = t })
   stand_within (suc n) s = stand_by s (r.step s) (λ t. stand_within n t)
 
-  -- Where a state leads by all that it does by itself.
+  -- What a state reaches by all that it does by itself.
   abbrev pub stand : S → Standing S
   stand s = stand_within (r.bound s) s
 

@@ -165,7 +165,7 @@ Cancels =
     (Begin ∷ Store 0 (pos 7) ∷ Cancel ∷ Store 0 (pos 0) ∷ End ∷ Out (pos 9) ∷ Out (pos 2) ∷ Done ∷ [])
     × Asks 29 19 (codes "cell c; fn main() { let i = 0; atomic { while 1 { i = i + 1; c = i; if i == 3 { cancel; } } } out i; }") (Wrote (back 0 (pos 0) ∷ []) ∷ [])
     (Begin ∷ Store 0 (pos 1) ∷ Store 0 (pos 2) ∷ Store 0 (pos 3) ∷ Cancel ∷ Store 0 (pos 0) ∷ End ∷ Out (pos 3) ∷ Done ∷ [])
-    -- A cancel counts one, and so does each store that writes back
+    -- a cancel counts one, and so does each store that writes back
     × Asks 9 3 (codes "cell c; cell d; fn main() { atomic { c = 1; d = 2; cancel; } }") [] (Begin ∷ Store 0 (pos 1) ∷ Store 1 (pos 2) ∷ Fault Size ∷ [])
     × Asks 9 5 (codes "cell c; cell d; fn main() { atomic { c = 1; d = 2; cancel; } }") (Wrote (back 0 (pos 0) ∷ back 1 (pos 0) ∷ []) ∷ []) (Begin ∷ Store 0 (pos 1) ∷ Store 1 (pos 2) ∷ Cancel ∷ Store 0 (pos 0) ∷ Fault Size ∷ [])
     × Asks 9 6 (codes "cell c; cell d; fn main() { atomic { c = 1; d = 2; cancel; } }") (Wrote (back 0 (pos 0) ∷ back 1 (pos 0) ∷ []) ∷ [])

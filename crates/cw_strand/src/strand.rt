@@ -155,7 +155,8 @@ impl Strand {
     }
 
     /// Joins the left strand to this one, the right strand, which has ended and goes on as the strand that forked. If
-    /// one of the two was given up before its end, the strand that forked is where this one is. Takes no memory.
+    /// one of the two was given up before its end, this strand stays at its place, as the strand that forked. Takes no
+    /// memory.
     pub fn joined(&mut self, left: Strand)
         ensures joined { self.new ≡ joined_of self.old left }
         ensures stands { (code : Code) → StandsIn code self.old → StandsIn code self.new }
