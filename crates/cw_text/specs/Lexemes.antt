@@ -83,7 +83,7 @@ keywords = m.Cell ∷ m.Fn ∷ m.Let ∷ m.Out ∷ m.If ∷ m.Else ∷ m.While �
 abbrev pub keywords_of : (language : ℕ) → List Terminal
 keywords_of language = if language == 2 then m.Cancel ∷ keywords else keywords
 
--- A sign comes before those that begin it
+-- a sign comes before those that begin it
 abbrev pub signs : List Terminal
 signs = m.EqEq ∷ m.BangEq ∷ m.LessEq ∷ m.GreaterEq ∷ m.BraceOpen ∷ m.BraceClose ∷ m.ParenOpen ∷ m.ParenClose ∷ m.SquareOpen ∷ m.SquareClose ∷ m.Comma ∷ m.Semicolon ∷ m.Assign ∷ m.Plus ∷ m.Minus ∷ m.Star ∷ m.Slash ∷ m.Percent ∷ m.Bang ∷ m.Less ∷ m.Greater ∷ []
 
@@ -104,7 +104,7 @@ abbrev pub begins_by : (ℕ → Bool) → List ℕ → Bool
 begins_by p [] = false
 begins_by p (c ∷ cs) = p c
 
--- A number over the greatest i64 is bad, and so is one that a letter follows at once
+-- a number over the greatest i64 is bad, and so is one that a letter follows at once
 abbrev pub number_token : (digits rest : List ℕ) → Token
 number_token ds rest = if begins_by is_letter rest || nat_le (2 ^ 63) (value_of_digits ds) then bad BadNumber else number (value_of_digits ds)
 
