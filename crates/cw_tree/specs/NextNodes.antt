@@ -52,20 +52,20 @@ pub record IsSound (t : List Node) : Type 0 where
 
 -- ## Laws
 
--- A tree stays sound when a node is added that is neither a strand nor a fork nor a refused access
+-- a tree stays sound when a node is added that is neither a strand nor a fork nor a refused access
 abbrev pub SoundGrows : Type 0
 SoundGrows =
     (t : List Node) (p : ℕ) (kind : Kind) (stamp : ℕ) → IsSound t → IsPlace t p → is_strand_kind kind ≡ false → is_fork_kind kind ≡ false → is_tried_kind kind ≡ false → IsNextStamp t p stamp
     → IsSound (t ++ fresh_node p kind stamp ∷ [])
 
--- A tree stays sound when an access is refused
+-- a tree stays sound when an access is refused
 abbrev pub SoundRefuses : Type 0
 SoundRefuses = (t : List Node) (p : ℕ) (kind : Kind) → IsSound t → IsPlace t p → IsTrue (is_tried_kind kind) → IsSound (t ++ fresh_node p kind 0 ∷ [])
 
--- A tree stays sound when a strand forks
+-- a tree stays sound when a strand forks
 abbrev pub SoundForks : Type 0
 SoundForks = (t : List Node) (p stamp : ℕ) → IsSound t → IsPlace t p → IsNextStamp t p stamp → IsSound (t ++ fork_nodes (length t) p stamp)
 
--- A tree stays sound when a block is closed, whichever way
+-- a tree stays sound when a block is closed, whichever way
 abbrev pub SoundCloses : Type 0
 SoundCloses = (t : List Node) (b : ℕ) (state : BlockState) (end : ℕ) → IsSound t → IsPlace t b → IsTrue (is_block t b) → is_pending_state state ≡ false → IsEndStamp t b end → IsSound (closed t b state end)
