@@ -37,7 +37,7 @@ TreesAreSound = OfEachState (λ first m. IsSound m.tree)
 abbrev pub OpenAreNested : Type 0
 OpenAreNested = OfEachState (λ first m. AreNested m.tree (is_open m))
 
--- where a strand runs, its next node, or the end of its block, may be made
+-- a running strand is at a place, where its next node, or the end of its block, may be made
 abbrev pub StrandsStandAtPlaces : Type 0
 StrandsStandAtPlaces = OfEachState (λ first m. (s : ℕ) → IsTrue (is_running m s) → IsPlace m.tree (place m.tree s))
 
@@ -102,7 +102,7 @@ DyingRollBack = OfEachState (λ first m. (s : ℕ) → IsTrue (is_running m s &&
 abbrev pub FreeAreSafe : Type 0
 FreeAreSafe = OfEachState (λ first m. (s : ℕ) → IsTrue (is_free m s && in_block m s) → is_victim m.tree m.conflicts (place m.tree s) ≡ false)
 
--- ## Where an access is refused as soon as it conflicts
+-- ## If an access is refused as soon as it conflicts
 
 -- all that is reached with refusals at once is reached with refusals at any time
 abbrev pub AtOnceIsAtAnyTime : Type 0

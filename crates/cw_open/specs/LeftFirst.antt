@@ -60,7 +60,7 @@ LeftFirstIsUnrefused =
     (asked : List Node → List ℕ → Option ℤ → List ℕ) (first : List ℤ) (es : List Step) → IsRun (while_pending asked) (first_machine first) es → IsTrue (go_left_first (first_machine first) es)
     → (after_all (first_machine first) es).conflicts ≡ []
 
--- ## What stands to the left is older
+-- ## What is to the left is older
 
 -- node m is in the left strand of a fork, and n in the right one
 pub record IsLeftOf (t : List Node) (m n : ℕ) : Type 0 where

@@ -13,5 +13,5 @@ is_open m n = (is_strand m.tree n && not (has_finished m n)) || (is_fork m.tree 
 pub record AreNested (t : List Node) (open_at : ℕ → Bool) : Type 0 where
   -- an open node is in an open one
   pub outer : (n : ℕ) → 0 < n → n < length t → open_at n ≡ true → open_at (parent_of t n) ≡ true
-  -- of the children of a strand or block only the last may be open
+  -- only the last child of a strand or block may be open
   pub last : (c d : ℕ) → 0 < c → c < d → d < length t → parent_of t c ≡ parent_of t d → is_fork t (parent_of t c) ≡ false → open_at c ≡ false

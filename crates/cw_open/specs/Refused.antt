@@ -72,7 +72,7 @@ DeadGoBack = OfEachState (λ first m. (x : ℕ) → 0 < x → IsTrue (finished_d
 abbrev pub ToldIsAtAnyTime : Type 0
 ToldIsAtAnyTime = (asked : List Node → List ℕ → Option ℤ → List ℕ) (first : List ℤ) (m : OpenMachine) → ReachedInTime (as_told asked) first m → IsReachedBy (at_any_time asked) first m
 
--- ## Where an access is refused as soon as it conflicts
+-- ## If an access is refused as soon as it conflicts
 
 -- a conflict can tell what the access met
 abbrev pub AtOnceIsTold : Type 0

@@ -52,7 +52,7 @@ pub record ReachedInTime (r : Rules) (first : List ℤ) (m : OpenMachine) : Type
   pub there : after_all (first_machine first) steps ≡ m
   pub timely : AreTimely (λ n. 0) (first_machine first) steps
 
--- ## Where a stamp is drawn by the step that uses it
+-- ## If a stamp is drawn by the step that uses it
 
 -- the stamp of the step exceeds the clock
 abbrev pub IsAhead : OpenMachine → Step → Type 0
