@@ -1,4 +1,4 @@
--- The depth-first order: always the leftmost strand that can go on is picked.
+-- The depth-first order: the leftmost strand that is at a want, or at a fault, is always picked.
 use Rattle.std.specs.Prelude.{◌≡◌, ℕ, Bool, true, false, List, [], ◌∷◌, Option, Some, None, option_map, if◌then◌else◌}
 use Rattle.std.specs.Option.{option_or}
 use Rattle.cw_strand.specs.Strands.{Strands, is_over}

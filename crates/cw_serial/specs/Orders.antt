@@ -55,12 +55,12 @@ LeadsUp order numbers n (Some i) todo = (from : ℕ) × (known_number order numb
 abbrev pub StandsNowhere : List Name → ℕ → Code → Type 0
 StandsNowhere order n code = (job : Job) (m : Machine StrandState) (q : List Turn) → IsMachine job code m → steps_down order n ≡ Some q → at (strands_of_job job) m.strands q ≡ None
 
--- what is found for a name: the number of its strand, or that there is none
+-- what is found for a name: the number of its strand, or that none is at a want or at its end
 abbrev pub Finds : List Name → ℕ → Code → Option ℕ → Type 0
 Finds order n code None = StandsNowhere order n code
 Finds order n code (Some i) = SameStrand order (names_in code) n i
 
--- the strand with that number, if there is one, is that of the name; otherwise no strand has the name
+-- the strand with that number, if there is one, is that of the name; otherwise no strand with the name is at a want or at its end
 abbrev pub IsNamed : Job → Machine StrandState → Code → Option ℕ → Option (List Turn) → Type 0
 IsNamed job m code None None = Unit {0}
 IsNamed job m code None (Some q) = at (strands_of_job job) m.strands q ≡ None
