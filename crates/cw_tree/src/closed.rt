@@ -32,8 +32,8 @@ struct Naming {
 }
 
 impl Closed {
-    /// Numbers the nodes of the tree depth first, and orders the conflicts as the tree lists their askers. After an
-    /// `Err` nothing has changed.
+    /// Numbers the nodes of the tree depth first, and orders the conflicts as the tree lists their askers. An `Err`
+    /// returns all of it unchanged.
     pub fn in_order(self) -> Result<Closed, (Closed, OutOfMemory)>
         ensures tree { IfOk result (λ c. c.tree ≡ in_order self.tree) }
         ensures journals { IfOk result (λ c. c.journals ≡ self.journals) }
