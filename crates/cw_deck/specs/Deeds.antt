@@ -1,4 +1,4 @@
--- What ends do to a deque, and what it then holds. Each end has a number.
+-- What ends do to a deque, and what the deque then holds. Each end has a number.
 use Rattle.std.specs.Prelude.{◌≡◌, ℕ, ◌==◌, ◌≤◌, List, [], ◌∷◌, ◌++◌, length, filter, map}
 use Rattle.std.specs.List.Sorted.{IsPermutation}
 use Rattle.atomic_blocks.specs.Lent.{RowsId}
@@ -8,13 +8,13 @@ use Rattle.cw_deck.specs.declared.deed.Deed.{Deed}
 use Rattle.cw_deck.specs.declared.deed.Deed.TheVariants.{Pushed, Popped, Stolen}
 
 module _ {T : Type 0} where
-  -- a push adds a task at the back, a pop takes the last one, a steal the first one
+  -- a push adds a task at the back, a pop removes the last one, a steal the first one
   abbrev pub IsDone : Deed T → (old new : List T) → Type 0
   IsDone (Pushed x) old new = new ≡ old ++ x ∷ []
   IsDone (Popped x) old new = old ≡ new ++ x ∷ []
   IsDone (Stolen x) old new = old ≡ x ∷ new
 
-  -- from the empty deque these deeds, each of one end, lead to one that holds these tasks
+  -- these deeds, each with the number of its end, lead from the empty deque to one that holds the tasks of the list
   pub data IsHistory : List (ℕ × Deed T) → List T → Type 0 where
     starts : IsHistory [] []
     goes_on : {h : List (ℕ × Deed T)} {old new : List T} (end : ℕ) (d : Deed T) → IsHistory h old → IsDone d old new → IsHistory (h ++ (end, d) ∷ []) new
@@ -23,17 +23,18 @@ module _ {T : Type 0} where
   abbrev pub deeds_of : ℕ → List (ℕ × Deed T) → List (Deed T)
   deeds_of end h = map (λ e. e.1) (filter (λ e. e.0 == end) h)
 
-  -- each end knows what it did, and no others did anything
+  -- each end knows exactly its own deeds, and no other end did anything
   pub record AreDeedsOf (h : List (ℕ × Deed T)) (known : List (List (Deed T))) : Type 0 where
     pub each : (end : ℕ) (ds : List (Deed T)) → get_elem? known end ≡ some ds → ds ≡ deeds_of end h
     pub others : (end : ℕ) → length known ≤ end → deeds_of end h ≡ []
 
-  -- the rule of a deque that holds these tasks, and of whose ends each knows this
+  -- the rule of a deque that holds these tasks and whose ends know these deeds: some history has led there
   abbrev pub HasHistory : List T → List (List (Deed T)) → Type 0
   HasHistory tasks known = (h : List (ℕ × Deed T)) × IsHistory h tasks × AreDeedsOf h known
 
-  -- There is a history, in which an end did just this, after which the deque holds at most so many tasks. What an end did does not tell that
-  -- it looked: other ends may have done anything. That none answers without a look is refused over any rule.
+  -- Some history in which an end did just `ds` leaves at most `most` tasks in the deque. That is all: the deeds of one end do not
+  -- tell that it looked, since other ends may have done anything. That no call answers `None` without a look is proved over any
+  -- rule, in `ruled.rt`.
   abbrev pub MayHold : ℕ → List (Deed T) → Type 0
   MayHold most ds = (h : List (ℕ × Deed T)) × (tasks : List T) × (end : ℕ) × IsHistory h tasks × (ds ≡ deeds_of end h) × (length tasks ≤ most)
 
@@ -54,23 +55,23 @@ module _ {T : Type 0} where
   tasks_of f [] = []
   tasks_of f (d ∷ ds) = f d ++ tasks_of f ds
 
-  -- what was pushed is, counted with repeats, what was popped, what was stolen and what is left
+  -- counted with repeats, the tasks that were pushed are those popped, those stolen and those left
   abbrev pub IsBalanced : List (Deed T) → List T → Type 0
   IsBalanced ds left = IsPermutation (tasks_of pushed_by ds) (tasks_of taken_by ds ++ left)
 
-  -- how often it pushed
+  -- the number of pushes among these deeds
   abbrev pub pushes : List (Deed T) → ℕ
   pushes ds = length (tasks_of pushed_by ds)
 
 abbrev pub NoTaskIsLost : (T : Type 0) → Type 0
 NoTaskIsLost T = (h : List (ℕ × Deed T)) (tasks : List T) → IsHistory h tasks → IsBalanced (map (λ e. e.1) h) tasks
 
--- ## What contracts see of an end: which deque it is of, and what it did
+-- ## What contracts see of an end: which deque it belongs to, and what it did
 
 pub record End (T : Type 0) : Type 0 where
   pub deque : RowsId
   pub deeds : List (Deed T)
 
--- one deed more
+-- the end after one more deed
 abbrev pub did : {T : Type 0} → End T → Deed T → End T
 did e d = record e { deeds = e.deeds ++ d ∷ [] }

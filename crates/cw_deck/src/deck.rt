@@ -1,4 +1,4 @@
-//! The two ends of a deque.
+//! The two kinds of ends of a deque: its owner's and a thief's.
 ghost use Rattle.std.specs.Prelude.{◌≡◌, ◌≤◌, [], IfOk, MatchOption, MatchResult};
 ghost use Rattle.cw_deck.specs.Deeds.{MayHold, did, pushes};
 ghost use Rattle.cw_deck.specs.declared.deed.Deed.TheVariants.{Pushed, Popped, Stolen};
@@ -11,10 +11,10 @@ use std::alloc::Global;
 use std::marker::Model;
 use std::sync::Wait;
 
-/// So many tasks fit before a deque first grows.
+/// The number of tasks that fit before a deque first grows.
 const ROOM: usize = 64;
 
-/// The owner's end of a deque, at its back. Contracts see what it did, one deed after another.
+/// The owner's end of a deque, at its back. Contracts see its deeds, one after another.
 pub struct Deck<T> {
     worker: Worker<T, Global, Deeds<T>, History<T>>,
 }
@@ -31,7 +31,7 @@ impl<T> Model for Deck<T> {
     ghost invariant = { λ d. (worker_flavor d.worker ≡ 1) × (64 ≤ worker_capacity d.worker) × (worker_index d.worker ≤ pushes (worker_view d.worker)) };
 }
 
-/// An end that takes tasks at the front. Contracts see what it did, one deed after another.
+/// An end that takes tasks at the front. Contracts see its deeds, one after another.
 pub struct Thief<T> {
     from: Stealer<T, Global, Deeds<T>, History<T>>,
     pass: Pass<T, Deeds<T>>,
@@ -65,7 +65,7 @@ impl<T: Drop> Drop for Thief<T> {
 }
 
 impl<T: Drop> Deck<T> {
-    /// An empty deque.
+    /// Makes an empty deque.
     pub fn new(alloc: Global) -> Result<Deck<T>, OutOfMemory>
         ensures { IfOk result (λ d. d.deeds ≡ []) }
     {
@@ -76,7 +76,7 @@ impl<T: Drop> Deck<T> {
 }
 
 impl<T> Deck<T> {
-    /// Another thief of this deque.
+    /// Makes another thief of this deque.
     pub fn thief(&mut self) -> Result<Thief<T>, OutOfMemory>
         ensures same { self.new ≡ self.old }
         ensures new { IfOk result (λ t. (t.deque ≡ self.old.deque) × (t.deeds ≡ [])) }
@@ -86,7 +86,7 @@ impl<T> Deck<T> {
         Ok(Thief { from, pass })
     }
 
-    /// Adds a task at the back, or gives it back where the deque cannot grow beyond its first places.
+    /// Adds `task` at the back. Gives `task` back if the deque cannot grow beyond its first 64 places.
     pub fn push(&mut self, task: T) -> Result<(), T>
         ensures { MatchResult result
             (λ _. self.new ≡ did self.old (Pushed task))
@@ -95,7 +95,7 @@ impl<T> Deck<T> {
         self.worker.push_as::<Pushes>(task)
     }
 
-    /// Takes the newest task. `None` comes only where the deque was empty at one moment of the call.
+    /// Removes and returns the newest task. Returns `None` only if this end's deeds fit a history that leaves the deque empty.
     pub fn pop(&mut self) -> Option<T>
         ensures { MatchOption result
             ((self.new ≡ self.old) × MayHold 0 self.old.deeds)
@@ -106,7 +106,8 @@ impl<T> Deck<T> {
 }
 
 impl<T> Thief<T> {
-    /// Takes the oldest task. `None` comes only where the deque held at most one task at one moment of the call.
+    /// Removes and returns the oldest task. Returns `None` only if this end's deeds fit a history that leaves at most one
+    /// task in it.
     pub fn steal<R: Wait>(&mut self, rt: &R) -> Option<T>
         ensures { MatchOption result
             ((self.new ≡ self.old) × MayHold 1 self.old.deeds)

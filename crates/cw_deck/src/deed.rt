@@ -3,7 +3,7 @@ use crossbeam_deque::protocol::{Outcome, Protocol, Split};
 use std::collections::LinkedList;
 use std::marker::PhantomData;
 
-/// What an end did to a deque. No value of it is made.
+/// Ghost state: what an end did to a deque. Never constructed at run time.
 pub enum Deed<T> {
     Pushed(T),
     Popped(T),
@@ -13,7 +13,7 @@ pub enum Deed<T> {
 /// What an end knows: its own deeds, one after another.
 pub type Deeds<T> = LinkedList<Deed<T>>;
 
-/// The rule: there is a history of the deque, in which each end did what it knows.
+/// The rule: the deque has a history in which each end did what it knows.
 pub struct History<T> {
     of: PhantomData<T>,
 }
@@ -29,7 +29,7 @@ impl<T> Protocol<T, Deeds<T>> for History<T> {
     ghost guest = { [] };
 }
 
-/// A new end, which has done nothing yet.
+/// Makes a new end, which has done nothing yet.
 pub struct Another;
 
 impl<T> Split<Deeds<T>> for Another {

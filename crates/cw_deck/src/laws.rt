@@ -1,7 +1,7 @@
-//! Laws on histories of deques.
+//! A law on histories of deques.
 ghost use Rattle.cw_deck.specs.Deeds.{NoTaskIsLost};
 
-/// What was pushed is, counted with repeats, what was popped, what was stolen and what is left.
+/// Counted with repeats, the tasks that were pushed are those popped, those stolen and those left.
 pub fn no_task_is_lost<T>()
     ensures { NoTaskIsLost T }
 {}

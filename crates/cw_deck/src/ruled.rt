@@ -1,4 +1,4 @@
-//! A pop and a steal under whatever rule: no rule gives a `None` without a look.
+//! A pop and a steal under any rule: `None` implies what the rule lets an end conclude from a look.
 ghost use Rattle.std.specs.Prelude.{◌≡◌, ◌≤◌, [], ◌∷◌, MatchOption, min};
 ghost use Rattle.crossbeam_deque.specs.Handles.{IsPassOf, SamePass, SameWorker, stealer_deque, stealer_flavor, view, worker_flavor, worker_index, worker_port, worker_view};
 ghost use Rattle.crossbeam_deque.specs.Tasks.{Finds, FindsFew, Pops, Takes};
@@ -8,7 +8,8 @@ use crossbeam_deque::{Pass, Steal, Stealer, Worker};
 use std::alloc::Global;
 use std::sync::Wait;
 
-/// Takes the task at the back of a LIFO deque. `None` tells what holds where the deque was empty at one moment of the call.
+/// Removes and returns the task at the back of a LIFO deque. If it returns `None`, `M.empty` holds: what is known if the deque was
+/// empty at one moment of the call.
 pub fn pop_by<T, V, P: Protocol<T, V>, M: Outcome<T, V>>(
     worker: &mut Worker<T, Global, V, P>,
 ) -> Option<T>
@@ -23,8 +24,8 @@ pub fn pop_by<T, V, P: Protocol<T, V>, M: Outcome<T, V>>(
     worker.pop_as::<M>()
 }
 
-/// Takes the task at the front, and tries again where another thread was first. `None` tells what holds where the deque
-/// held few tasks at one moment of the call: none of a FIFO deque, and at most one of a LIFO one.
+/// Removes and returns the task at the front, and retries if another thread was faster. If it returns `None`, `M.empty` holds: what
+/// is known if the deque held few tasks at one moment of the call, none for FIFO and at most one for LIFO.
 pub fn steal_by<T, V, P: Protocol<T, V>, M: Outcome<T, V>, R: Wait>(
     rt: &R,
     from: &Stealer<T, Global, V, P>,

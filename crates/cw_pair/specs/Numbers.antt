@@ -1,4 +1,4 @@
--- Numbers, what they stand for, and who knows it.
+-- Numbers, what they stand for, and which seat knows it.
 use Rattle.std.specs.Prelude.{◌≡◌, ◌⊎◌, ℕ, suc, ◌+◌, ◌<◌, ◌≤◌, ◌^◌, List, [], ◌∷◌, ◌++◌, min, Option, None}
 use mathlib.Core.Option.{some}
 use lib.ListN.{get_elem?}
@@ -7,12 +7,12 @@ use Rattle.atomic_table.specs.Seated.{TableId}
 use Rattle.cw_pair.specs.declared.view.Note.{Note}
 use Rattle.cw_pair.specs.declared.view.Known.{Known}
 
--- What contracts see of a source: the numbers that it may still give, from the next one on and below the end.
+-- What contracts see of a source: the numbers that it may still give, from `next` up to, but not including, `end`.
 pub record Numbers : Type 0 where
   pub next : ℕ
   pub end : ℕ
 
--- any table: each run picks its own
+-- any table, for type parameters that nobody chose; each run picks its own
 abbrev pub no_table : TableId
 no_table = record { words = 0; slots = 0; views_name = 0; atom = 0; block = 0; offset = 0; slot_names = [] }
 
@@ -22,15 +22,15 @@ module _ {T : Type 0} where
   abbrev pub note : ℕ → Option T → Note T
   note n x = record { number = n; of = x }
 
-  -- all numbers may be given
+  -- the view before any number was given
   abbrev pub whole : Known T
   whole = record { first = 0; last = 2 ^ 63; notes = [] }
 
-  -- nothing is known
+  -- the view that knows nothing and may give nothing
   abbrev pub none : Known T
   none = record { first = 0; last = 0; notes = [] }
 
-  -- a source that is shared keeps the next so many numbers
+  -- where a source is cut in two when it is shared: it keeps at most the next 2 ^ 40 numbers
   abbrev pub middle : Known T → ℕ
   middle v = min v.last (v.first + 2 ^ 40)
 
@@ -40,7 +40,7 @@ module _ {T : Type 0} where
   abbrev pub upper : Known T → Known T
   upper v = record v { first = middle v; notes = [] }
 
-  -- the first number was given
+  -- the view after its first number was given
   abbrev pub gone : Known T → Known T
   gone v = record v { first = suc v.first }
 
@@ -64,17 +64,17 @@ module _ {T : Type 0} where
 
   -- ## The rule
 
-  -- n may still be given by who knows this
+  -- a seat with view `v` may still give the number `n`
   pub record MayGive (v : Known T) (n : ℕ) : Type 0 where
     pub first : v.first ≤ n
     pub last : n < v.last
 
-  -- Notes of one number agree. A number that may still be given is in no note, and may be given by one seat alone.
+  -- Notes of one number agree. A number that may still be given is in no note, and only one seat may give it.
   pub record IsKept (views : List (Known T)) : Type 0 where
     pub agree : (i j : ℕ) (u v : Known T) (x y : Note T) → get_elem? views i ≡ some u → get_elem? views j ≡ some v → Has u.notes x → Has v.notes y → x.number ≡ y.number → x.of ≡ y.of
     pub fresh : (i j : ℕ) (u v : Known T) (y : Note T) → get_elem? views i ≡ some u → get_elem? views j ≡ some v → Has v.notes y → MayGive u y.number → ⊥
     pub apart : (i j n : ℕ) (u v : Known T) → (i ≡ j → ⊥) → get_elem? views i ≡ some u → get_elem? views j ≡ some v → MayGive u n → MayGive v n → ⊥
 
-  -- a look changes nothing, and tells that the notes of the seat's own view agree
+  -- a look changes nothing and shows that the notes in the seat's own view agree
   abbrev pub looked : {S : Type 0} → Step S → Me S (Known T) → ℕ → Me S (Known T) → Type 0
   looked s me n me' = (me' ≡ me) × ((x y : Note T) → Has me.0.notes x → Has me.0.notes y → x.number ≡ y.number → x.of ≡ y.of)

@@ -1,7 +1,7 @@
-//! Pairs: one thing that is known in two places. Its two halves go different ways, through locks and deques, and where they come together
-//! again both stand for the same. A half has a number and no other bytes; what it stands for exists in proofs alone.
-//! Stands on `atomic_table` and `cw_base`. Contracts cite `specs/Numbers.antt`: they see a half as its number with what that stands for
-//! (`Note`), and a source as the numbers that it may still give.
+//! Pairs: one value that is known in two places. Use one when the two halves travel apart, through locks and deques, and meet again
+//! later: both then stand for the same value. A half holds a number and no other bytes; what it stands for exists in proofs only.
+//! Contracts cite `specs/Numbers.antt`: they see a half as its number with what that stands for (`Note`), and a source as the
+//! numbers that it may still give.
 #![tactic(auto)]
 
 mod law;

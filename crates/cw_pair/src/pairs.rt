@@ -9,10 +9,10 @@ use cw_base::OutOfMemory;
 use std::alloc::Global;
 use std::marker::{Brand, Model, PhantomData};
 
-/// So many numbers keeps a source that is shared.
+/// The most numbers that a source keeps when it is shared.
 pub const NUMBERS: u64 = 1 << 40;
 
-/// Which table it is. Each run picks it.
+/// Names a table. Each run picks its own.
 pub trait Naming: Send + Sync {
     ghost use Rattle.atomic_table.specs.Seated.{TableId};
 
@@ -25,7 +25,7 @@ impl Naming for Brand {
     ghost table = { no_table };
 }
 
-/// A table that has no name yet. Contracts see which table it is.
+/// A table without a name yet. Contracts see which table it is.
 #[derive(Drop)]
 pub struct Opened<T> {
     table: Board<T>,
@@ -52,7 +52,7 @@ pub struct Pairs<T, N: Naming> {
     ghost words: { 0 < table.shared.table_id.words },
 }
 
-/// A source of numbers for new pairs. Contracts see which ones it may still give.
+/// A source of numbers for new pairs. Contracts see which numbers it may still give.
 #[derive(Drop)]
 pub struct Source<T, N: Naming> {
     next: u64,
@@ -114,7 +114,7 @@ impl<T> Opened<T> {
         Ok(Opened { table, seat })
     }
 
-    /// The same under a name, with the source of all numbers.
+    /// Names the table `N`, and returns it with the source of all numbers.
     pub fn named<N: Naming>(self) -> (Pairs<T, N>, Source<T, N>)
         requires { self ≡ N.table }
         ensures { result.1 ≡ record { next = 0; end = 2 ^ 63 } }
@@ -135,7 +135,7 @@ impl<T> Opened<T> {
 }
 
 impl<T, N: Naming> Source<T, N> {
-    /// Another source, for the numbers behind the next so many.
+    /// Splits this source: it keeps at most the next `NUMBERS` numbers, and the new source gets the rest.
     pub fn share(&mut self, pairs: &Pairs<T, N>) -> Source<T, N>
         ensures { let middle = min self.old.end (self.old.next + 2 ^ 40) in
             (self.new ≡ record self.old { end = middle }) × (result ≡ record self.old { next = middle }) }
@@ -153,7 +153,7 @@ impl<T, N: Naming> Source<T, N> {
         }
     }
 
-    /// The number of the next pair.
+    /// Returns the number of the next pair, which is not given yet.
     pub fn next(&self) -> u64
         ensures { result ≡ self.now.next }
     {
@@ -167,7 +167,7 @@ impl<T, N: Naming> Source<T, N> {
         self.next < self.end
     }
 
-    /// The two halves of a new pair, which stand for this.
+    /// Returns the two halves of a new pair, both of which stand for `of`.
     pub fn pair(&mut self, pairs: &Pairs<T, N>, of: &T) -> (Half<T, N>, Half<T, N>)
         requires { self.old.next < self.old.end }
         ensures halves { let half = note self.old.next (Some of.now) in (result.0 ≡ half) × (result.1 ≡ half) }
@@ -203,7 +203,7 @@ impl<T, N: Naming> Half<T, N> {
 }
 
 impl<T, N: Naming> Pairs<T, N> {
-    /// Two halves of one number stand for the same.
+    /// Consumes two halves of one number: both stood for the same value.
     pub fn meet(&self, mine: Half<T, N>, other: Half<T, N>)
         requires { mine.number ≡ other.number }
         ensures { mine.of ≡ other.of }
