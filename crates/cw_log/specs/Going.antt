@@ -1,4 +1,4 @@
--- What stays true of a strand that goes on, as laws.
+-- Laws: what stays true of a strand that goes on.
 use Rattle.std.specs.Prelude.{ℕ}
 use Rattle.cw_tree.specs.declared.node.Kind.{Kind}
 use Rattle.cw_tree.specs.declared.node.BlockState.{BlockState}
@@ -14,6 +14,6 @@ GoesOnInBlocks = (budget stamp : ℕ) (x : Token) → GoesFree budget x → IsLa
 abbrev pub GoesOnBehindBlocks : Type 0
 GoesOnBehindBlocks = (budget end : ℕ) (state : BlockState) (x : Token) → GoesFree budget x → GoesFree budget (ended x state end)
 
--- the right strand, once its fork is split
+-- both strands of a fork go on, the right one once its fork is split
 abbrev pub BothGoOn : Type 0
 BothGoOn = (budget stamp fork column : ℕ) (x : Token) → GoesFree budget x → GoesFree budget (forked x stamp fork) × GoesFree budget (once_split (right_of x fork column))

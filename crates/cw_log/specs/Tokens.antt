@@ -1,5 +1,5 @@
--- What each call of a board makes of what a token stands for, and what the calls ask. All of it is of one strand: nothing here speaks
--- of other strands, of what the board holds, or of time.
+-- What each call of a board makes of the `Token` that a token stands for, and what each call asks. All of it is about one strand:
+-- nothing here speaks of other strands, of what the board holds, or of time.
 use Rattle.std.specs.Prelude.{◌≡◌, ◌⊎◌, ℕ, ◌+◌, ◌<◌, ◌||◌, Bool, true, false, All, Contains, List, [], ◌∷◌, ◌++◌, length, drop, Option, Some, None, if◌then◌else◌}
 use Rattle.cw_tree.specs.declared.node.Node.{Node}
 use Rattle.cw_tree.specs.declared.node.Kind.{Kind}
@@ -41,27 +41,27 @@ root_token = record {
 abbrev pub with_nodes : Token → List Node → Token
 with_nodes x ns = record x { own = record x.own { nodes = ns } }
 
--- a node more in its place
+-- one more node in its place
 abbrev pub made : Token → Kind → (stamp : ℕ) → Token
 made x kind stamp = with_nodes x (x.own.nodes ++ fresh_node x.place kind stamp ∷ [])
 
--- a block more in its place, in which it goes on
+-- one more block in its place; it goes on inside
 abbrev pub began : Token → (stamp : ℕ) → Token
 began x stamp = record (made x Block stamp) { place = length x.own.nodes; around = stamp ∷ x.around }
 
--- the block in its place is closed, and it goes on behind that
+-- the block in its place is closed, and it goes on behind that block
 abbrev pub ended : Token → BlockState → (end : ℕ) → Token
 ended x state end = record (with_nodes x (closed x.own.nodes x.place state end)) { place = parent_of x.own.nodes x.place; around = drop 1 x.around }
 
--- a refused access more, with its conflict
+-- one more refused access, with its conflict
 abbrev pub refused : Token → Conflict → Token
 refused x c = let y = made x (Tried c.cell) 0 in record y { own = record y.own { conflicts = y.own.conflicts ++ c ∷ [] } }
 
--- it goes on in the strand with this number, on this side of a fork that was made where it stood
+-- it goes on in the strand with the number `strand`, on side `side` of a fork made where it stood
 abbrev pub inside : Token → Side → (strand : ℕ) → Token
 inside x side strand = record x { strand = strand; place = strand; forks = record { side = side; strand = x.strand; place = x.place; around = x.around } ∷ x.forks }
 
--- a fork more with its left strand, in which it goes on
+-- one more fork with its left strand, in which it goes on
 abbrev pub forked : Token → (stamp fork : ℕ) → Token
 forked x stamp fork =
     let n = length x.own.nodes in
@@ -83,18 +83,18 @@ right_of x fork column = record {
   told = false;
 }
 
--- a fork more with both its strands, in whose left one it goes on
+-- one more fork with both its strands; it goes on in the left one
 abbrev pub branched : Token → (stamp : ℕ) → Token
 branched x stamp =
     let n = length x.own.nodes in
     inside (with_nodes x (x.own.nodes ++ fresh_node x.place Fork stamp ∷ fresh_node n Strand 0 ∷ fresh_node n Strand 0 ∷ [])) (First (n + 2)) (n + 1)
 
--- from a strand of the innermost fork to where the strand that forked stands
+-- from a strand of the innermost fork back to where the strand that forked stands
 abbrev pub left_behind : Token → List Open → Token
 left_behind x [] = x
 left_behind x (o ∷ os) = record x { strand = o.strand; place = o.place; around = o.around; forks = os }
 
--- from the left strand of an inline fork to the right one, and from there to the strand that forked
+-- from the left strand of an inline fork to the right one, and from there back to the strand that forked
 abbrev pub turned_by : Token → List Open → Token
 turned_by x [] = x
 turned_by x (o ∷ os) = by o.side where
@@ -116,7 +116,7 @@ abbrev pub kept_stop : Option Stop → Option Stop → Option Stop
 kept_stop None h = h
 kept_stop (Some x) h = Some x
 
--- the strand that forked, with the logs of both
+-- the strand that forked, with the logs of both strands
 abbrev pub taken_in : (left right : Token) → Token
 taken_in x y = record (left_behind x x.forks) {
   joined = x.joined ++ y.own ∷ y.joined;
@@ -134,29 +134,29 @@ halted x h = record x { stop = Some (record { halt = h; column = x.own.column; s
 abbrev pub was_told : Token → Bool → Token
 was_told x b = record x { told = x.told || b }
 
--- ## What calls ask
+-- ## What the calls ask
 
 abbrev pub conflicts_in : List Log → List Conflict
 conflicts_in [] = []
 conflicts_in (l ∷ ls) = l.conflicts ++ conflicts_in ls
 
--- a pending block around its place is this conflict's victim
+-- the conflict's victim is a pending block around the token's place
 abbrev pub Fells : Token → Conflict → Type 0
 Fells x c = Contains x.around c.victim
 
--- it neither halted nor was told so, and no conflict of its logs has the last attempt
+-- it neither halted nor was told of a halt, and no conflict in its logs is from the last attempt
 pub record IsOn (budget : ℕ) (x : Token) : Type 0 where
   pub stop : x.stop ≡ None
   pub told : x.told ≡ false
   pub unspent : All (λ c. c.attempt ≡ budget → ⊥) (conflicts_in (logs x))
 
--- and its strand goes on, and no conflict has a block around its place for its victim
+-- it is on, its strand goes on, and no conflict's victim is a block around its place
 pub record GoesFree (budget : ℕ) (x : Token) : Type 0 where
   pub on : IsOn budget x
   pub phase : x.phase ≡ Going
   pub free : All (λ c. Fells x c → ⊥) (conflicts_in (logs x))
 
--- or one has
+-- it is on, its strand goes on, and the victim of some conflict is a block around its place
 pub record GoesBack (budget : ℕ) (x : Token) : Type 0 where
   pub on : IsOn budget x
   pub phase : x.phase ≡ Going
@@ -172,11 +172,11 @@ HasBlock x = x.place ≡ x.strand → ⊥
 abbrev pub IsOff : Token → Type 0
 IsOff x = (x.stop ≡ None → ⊥) ⊎ (x.told ≡ true)
 
--- no block that its strand began is pending and nothing is to be merged, or it stopped
+-- it is off; or no block that its strand began is pending, and nothing is to be merged
 abbrev pub IsDone : Token → Type 0
 IsDone x = IsOff x ⊎ ((x.place ≡ x.strand) × ((fork : ℕ) → x.phase ≡ Parted fork → ⊥))
 
--- the tokens of the two strands of a fork, each with no other fork open in it
+-- the tokens of the two strands of a fork, each with no other fork open inside its strand
 pub record AreOfOneFork (x y : Token) : Type 0 where
   pub inner : Open
   pub outer : List Open
@@ -189,14 +189,14 @@ is_inline (Beside fork) = false
 is_inline (First right) = true
 is_inline Second = true
 
--- it stands in a strand of a fork that has one token
+-- it stands in a strand of a fork whose two strands share one token
 pub record IsInline (x : Token) : Type 0 where
   pub inner : Open
   pub outer : List Open
   pub there : x.forks ≡ inner ∷ outer
   pub side : is_inline inner.side ≡ true
 
--- it waits for the split of this fork
+-- it waits for the split of the fork with the number `fork`
 abbrev pub MaySplit : Token → (fork : ℕ) → Type 0
 MaySplit x fork = (x.phase ≡ Waiting) × (x.fork ≡ fork)
 
@@ -204,11 +204,11 @@ MaySplit x fork = (x.phase ≡ Waiting) × (x.fork ≡ fork)
 abbrev pub MayTakeBack : (left right : Token) → Type 0
 MayTakeBack x y = (x.phase ≡ Going) × (x.place ≡ x.strand) × (y.phase ≡ Waiting)
 
--- what the split of this fork parted is to be merged
+-- the fork with the number `fork` was split, and its parts have to be merged
 abbrev pub MayMerge : Token → (fork : ℕ) → Type 0
 MayMerge x fork = x.phase ≡ Parted fork
 
--- its last node is a refused access that was the last attempt
+-- its last node is a refused access, and that was the last attempt
 pub record IsSpent (budget : ℕ) (x : Token) : Type 0 where
   pub earlier : List Conflict
   pub last : Conflict
@@ -220,14 +220,14 @@ abbrev pub IsSpentFor : ℕ → Token → Halt → Type 0
 IsSpentFor budget x (Budget s) = IsSpent budget x
 IsSpentFor budget x h = Unit {0}
 
--- it has not stopped, its strand goes on, and where attempts are used up its last access was refused at the last one
+-- It has not stopped and its strand goes on. If attempts are used up, its last access was refused at the last attempt.
 pub record MayHalt (budget : ℕ) (x : Token) (h : Halt) : Type 0 where
   pub stop : x.stop ≡ None
   pub told : x.told ≡ false
   pub phase : x.phase ≡ Going
   pub spent : IsSpentFor budget x h
 
--- a begin's stamp exceeds 0, those of all blocks around, and those of all victims of the token's conflicts
+-- a begin's stamp that exceeds 0, the stamps of all blocks around, and those of all victims in the token's conflicts
 pub record IsLater (x : Token) (stamp : ℕ) : Type 0 where
   pub some : 0 < stamp
   pub around : All (λ b. b < stamp) x.around

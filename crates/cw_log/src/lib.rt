@@ -1,7 +1,8 @@
-//! Logs of strands, and what a shared board does for the token of one strand, whatever the board is made of.
-//! Stands on `cw_base`, `cw_tree` and `cw_trace`.
-//! Contracts cite `specs/Tokens.antt` (what each call makes of what a token stands for, which is `Token`, and what calls ask) and
-//! `specs/Answers.antt` (what answers tell). All of it is of one strand: nothing there speaks of other strands, of what the board holds, or of time.
+//! Logs of strands, and the trait of shared boards: what a board does for the token of one strand, however the board is made.
+//! Implement `SharedBoard` to run strands on a board of your own.
+//! Contracts cite `specs/Tokens.antt` (the `Token` that a token stands for, what each call makes of it, and what calls ask) and
+//! `specs/Answers.antt` (what answers tell). All of it is about one strand: nothing there speaks of other strands, of what the
+//! board holds, or of time.
 #![tactic(auto)]
 
 mod board;

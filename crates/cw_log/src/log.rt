@@ -1,9 +1,9 @@
 use cw_base::Seq;
 use cw_tree::{Conflict, Node};
 
-/// What a strand did, from its begin on: nodes by their numbers in this log, of which number 0 is the strand itself, and the conflicts of
-/// its refused accesses, whose askers are such numbers. It hangs from a fork, a node of the log with the column `from`; the log of the root
-/// has 0 for both.
+/// What a strand did, from its begin on. Nodes are numbered within this log, and node 0 is the strand itself. `conflicts` are those
+/// of its refused accesses, and their askers are such numbers. The log hangs from `fork`, a node of the log with the column `from`;
+/// both are 0 for the log of the root.
 #[derive(Drop)]
 pub struct Log {
     pub column: u32,
@@ -13,7 +13,7 @@ pub struct Log {
     pub conflicts: Seq<Conflict>,
 }
 
-/// A pending block that another seat began: its begin stamp, the column of its strand, and which attempt it is.
+/// A pending block that another seat began: the stamp of its begin, the column of its strand, and its attempt number.
 #[derive(Clone, Copy, Debug)]
 pub struct Above {
     pub begin: u64,

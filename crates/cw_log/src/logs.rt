@@ -1,4 +1,4 @@
-//! Lists of logs, of which two are put together without memory.
+//! Lists of logs, which can be appended without memory.
 ghost use Rattle.std.specs.Prelude.{◌≡◌, ◌<◌, ◌+◌, ◌^◌, [], ◌∷◌, ◌++◌, length, MatchOption, OnOk, OnErr};
 ghost use Rattle.std.specs.Map.Iter.{ShowsInOrder, deref};
 ghost use Rattle.cw_log.specs.declared.log.Log.{Log};
@@ -10,7 +10,7 @@ use std::collections::LinkedList;
 use std::collections::linked_list::Iter;
 use std::marker::Model;
 
-/// The logs of a list, in order.
+/// Iterates over the logs of a list, in order.
 pub type LogsIter<'a> = Iter<'a, Log>;
 
 /// A list of logs. Contracts see the list.
@@ -29,7 +29,7 @@ impl Model for Logs {
 }
 
 impl Logs {
-    /// The empty list, which takes no memory.
+    /// Makes the empty list. Takes no memory.
     pub fn new(alloc: Global) -> Logs
         ensures { result ≡ [] }
     {
@@ -38,7 +38,7 @@ impl Logs {
         }
     }
 
-    /// Adds a log at the end.
+    /// Adds `log` at the end.
     pub fn push(&mut self, log: Log) -> Result<(), OutOfMemory>
         ensures ok { OnOk result (self.new ≡ self.old ++ log ∷ []) }
         ensures err { OnErr result (self.new ≡ self.old) }
@@ -47,7 +47,7 @@ impl Logs {
         Ok(())
     }
 
-    /// Puts another list behind this one. Takes no memory, and as long for short lists as for long ones.
+    /// Appends the list `more`. Takes no memory, and the same time for lists of any length.
     pub fn append(&mut self, more: Logs)
         requires { length self.old + length more < 2 ^ 63 }
         ensures { self.new ≡ self.old ++ more }
@@ -73,7 +73,7 @@ impl Logs {
     }
 }
 
-/// Room for one log in a list, which is taken ahead.
+/// Room for one log in a list, allocated ahead.
 #[derive(Drop)]
 pub struct LogRoom {
     list: LinkedList<Log>,
@@ -93,7 +93,7 @@ impl LogRoom {
         Ok(LogRoom { list })
     }
 
-    /// The list of one log. Takes no memory.
+    /// Returns the list of one log. Takes no memory.
     pub fn fill(self, log: Log) -> Logs
         ensures { result ≡ log ∷ [] }
     {

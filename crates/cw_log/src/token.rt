@@ -3,7 +3,7 @@ use crate::{Log, Logs};
 use cw_base::Stack;
 use cw_tree::Halt;
 
-/// How a token was stopped, and where: the column of its log, and the strand there.
+/// How a token was stopped, and where: the column of its log, and the strand in that log.
 #[derive(Clone, Copy, Drop, Debug)]
 pub struct Stop {
     pub halt: Halt,
@@ -11,18 +11,18 @@ pub struct Stop {
     pub strand: u32,
 }
 
-/// A fork, for a token that stands in a strand of it.
+/// The side of a fork on which a token stands.
 #[derive(Clone, Copy, Drop, PartialEq, Eq, Debug)]
 pub enum Side {
     /// In the left strand of the fork with this number, whose right strand has a token of its own.
     Beside(u32),
-    /// In the left strand of a fork that has one token, and whose right strand has this number.
+    /// In the left strand of an inline fork, whose right strand has this node number.
     First(u32),
-    /// In the right strand of such a fork.
+    /// In the right strand of an inline fork.
     Second,
 }
 
-/// Where the strand that forked stands: that strand, its place, and the begin stamps of the pending blocks around that place.
+/// Where the strand that forked stands: its number, its place, and the begin stamps of the pending blocks around that place.
 #[derive(Drop)]
 pub struct Open {
     pub side: Side,
@@ -31,16 +31,16 @@ pub struct Open {
     pub around: Stack<u64>,
 }
 
-/// What a token is for.
+/// What the token may do next.
 #[derive(Clone, Copy, Drop, PartialEq, Eq, Debug)]
 pub enum Phase {
     /// Its strand goes on.
     Going,
-    /// It is that of a right strand whose fork is neither split nor taken back yet.
+    /// It belongs to a right strand whose fork is neither split nor taken back yet.
     Waiting,
-    /// It is that of a left strand whose right one was taken back: it is only joined.
+    /// It belongs to a left strand whose right one was taken back: it can only be joined.
     Over,
-    /// It comes from the join of the fork with this number, which was split: what that parted is to be merged first.
+    /// It comes from the join of the fork with this number, which was split: the merge comes first.
     Parted(u32),
 }
 
@@ -50,18 +50,18 @@ pub struct Token {
     /// Its own log, and those of the tokens that were joined to it.
     pub own: Log,
     pub joined: Logs,
-    /// The strand for which it stands, and the node of its own log in which the next one goes.
+    /// The strand for which it stands, and the node of its own log beneath which its next node goes.
     pub strand: u32,
     pub place: u32,
     /// The pending blocks around that place, by their begin stamps, innermost first.
     pub around: Stack<u64>,
     /// The forks of its own log in whose strands it stands, innermost first.
     pub forks: Stack<Open>,
-    /// The number of the fork as whose right strand it began, or 0 for the root; and whether that was split.
+    /// The number of the fork as whose right strand it began, or 0 for the root; and whether that fork was split.
     pub fork: u32,
     pub split: bool,
     pub phase: Phase,
     pub stop: Option<Stop>,
-    /// It was told that some token has halted.
+    /// Whether it was told that some token has halted.
     pub told: bool,
 }
