@@ -1,5 +1,5 @@
--- What strands did, one thing after another. The course of a strand is a tree of what it has in it: it goes from one state of the strand to
--- another, or breaks off. A log is a course written down.
+-- What strands did, one thing after another. The course of a strand is a tree of what happened in it. It leads from one state of
+-- the strand to another, or breaks off. A log is a course written down.
 use Rattle.std.specs.Prelude.{◌≡◌, ℕ, ◌+◌, IsTrue, List, [], ◌∷◌, ◌++◌, Option, Some, None}
 use Rattle.cw_code.specs.declared.FaultKind.{FaultKind}
 use Rattle.cw_strand.specs.declared.want.Want.TheVariants as want
@@ -16,10 +16,10 @@ use Rattle.cw_log.specs.declared.log.Log.{Log}
 
 pub data Course : Type 0 where
   nothing : Course
-  -- an access, a refused one, an output, or a cancel
+  -- an access, a refused access, an output or a cancel
   act : Course → Kind → (stamp : ℕ) → Course
   block : Course → BlockState → (stamp end : ℕ) → (inside : Course) → Course
-  -- both strands of a fork; the right one has a log of its own, with this column, or is inline and has none
+  -- both strands of a fork; the right one either has a log of its own, with this column, or is inline and has none
   fork : Course → (column : Option ℕ) → (stamp : ℕ) → (left right : Course) → Course
   -- the run was stopped here, at a fault
   fault : Course → FaultKind → Course
@@ -27,7 +27,8 @@ pub data Course : Type 0 where
 -- ## What strands of a program may do
 
 module _ {A : Type 0} (s : Strands A) where
-  -- from one state to the next by an act: the strand wants it, and is answered; where it was refused the strand stays
+  -- From one state to the next by an act: the strand wants the act, and is answered. If it was refused, the strand stays where it
+  -- is.
   abbrev pub Acts : A → Kind → A → Type 0
   Acts a (Read c v) b = (s.want a ≡ want.Load c) × (b ≡ s.answer a (Value v))
   Acts a (Write c v) b = (s.want a ≡ want.Store c v) × (b ≡ s.answer a Nothing)
@@ -37,8 +38,8 @@ module _ {A : Type 0} (s : Strands A) where
   Acts a kind b = ⊥
 
   mutual
-    -- From one state to another by this course: each thing is what the strand wants there. Blocks are committed, or were rolled back and
-    -- are wanted still; both strands of each fork come to their ends.
+    -- From one state to another by this course: each thing in it is what the strand wants there. A block is committed, or was
+    -- rolled back and is still wanted. Both strands of each fork come to their ends.
     pub data Goes : A → Course → A → Type 0 where
       starts : {a : A} → Goes a nothing a
       acts : {a b c : A} {cs : Course} {kind : Kind} {stamp : ℕ} → Goes a cs b → Acts b kind c → Goes a (act cs kind stamp) c
@@ -50,7 +51,7 @@ module _ {A : Type 0} (s : Strands A) where
           → Goes (s.left b) ls l → IsTrue (is_over (s.want l)) → Goes (s.right b) rs r → IsTrue (is_over (s.want r))
           → Goes a (fork cs column stamp ls rs) (s.joined r l)
 
-    -- The same, which may break off: in a block that is pending, or in the strands of a fork, either of which is then the last thing in it.
+    -- Like `Goes`, but may break off: in a pending block, or in the strands of a fork, which then is the last thing in the course.
     pub data Stops : A → Course → Type 0 where
       there : {a b : A} {cs : Course} → Goes a cs b → Stops a cs
       within : {a b : A} {cs js : Course} {stamp : ℕ} → Goes a cs b → s.want b ≡ want.Begin → Stops (s.answer b Nothing) js
@@ -61,7 +62,7 @@ module _ {A : Type 0} (s : Strands A) where
 
 -- ## Written down
 
--- so many nodes it has in its own log
+-- the number of nodes that the course has in its own log
 abbrev pub size : Course → ℕ
 size nothing = 0
 size (act cs kind stamp) = size cs + 1
@@ -70,7 +71,7 @@ size (fork cs None stamp ls rs) = size cs + 3 + size ls + size rs
 size (fork cs (Some column) stamp ls rs) = size cs + 2 + size ls
 size (fault cs kind) = size cs
 
--- these nodes, from this number on, beneath that one; those of strands come right behind their fork
+-- The nodes of the course from number `base` on, beneath the node `under`. The nodes of the strands come right behind their fork.
 abbrev pub laid : Course → (base under : ℕ) → List Node
 laid nothing base under = []
 laid (act cs kind stamp) base under = laid cs base under ++ fresh_node under kind stamp ∷ []
@@ -85,11 +86,12 @@ laid (fork cs (Some column) stamp ls rs) base under =
     laid cs base under ++ fresh_node under Fork stamp ∷ fresh_node n Strand 0 ∷ laid ls (n + 2) (n + 1)
 laid (fault cs kind) base under = laid cs base under
 
--- the log in which a strand began, with its column, and the column and the fork from which it hangs; conflicts are no part of a course
+-- The log in which a strand began, with its column, and the column and the fork from which it hangs. Conflicts are no part of a
+-- course.
 abbrev pub own_log : Course → (column from at : ℕ) → Log
 own_log cs column from at = record { column = column; from = from; fork = at; nodes = fresh_node 0 Strand 0 ∷ laid cs 1 0; conflicts = [] }
 
--- the logs of right strands beneath a course that is in this log, in the order in which their forks are joined
+-- the logs of right strands beneath a course in the log with this column, in the order in which their forks are joined
 abbrev pub rights : Course → (column base : ℕ) → List Log
 rights nothing column base = []
 rights (act cs kind stamp) column base = rights cs column base
@@ -108,6 +110,6 @@ logs_of cs column from at = own_log cs column from at ∷ rights cs column 1
 
 -- ## A law
 
--- A strand that goes by a course goes as the law of strands says, and has begun as many blocks then as before.
+-- A strand that goes by a course goes as the law of strands says, and ends with as many blocks begun as before.
 abbrev pub CoursesGoOn : Type 0 → Type 0
 CoursesGoOn A = (s : Strands A) (cs : Course) (n : ℕ) (ns : List ℕ) (a b : A) → Goes s a cs b → GoesTo s (n ∷ ns) a (n ∷ ns) b

@@ -1,4 +1,5 @@
--- Small programs and what their strands did, as courses. Each is one, and is none where one thing is changed.
+-- Examples: small programs, and what their strands did, as courses. Each is a course of its program, and is none once one thing is
+-- changed.
 use Rattle.std.specs.Prelude.{◌≡◌, ℕ, ℤ, pos, List, [], ◌∷◌, Some, None}
 use Rattle.cw_code.specs.declared.Back.{Back}
 use Rattle.cw_strand.specs.declared.want.Want.{Want}
@@ -47,13 +48,13 @@ reader_next x given = over
 abbrev pub reader : Strands Reader
 reader = record { elements = 1; start = reads; want = reader_wants; answer = reader_next; left = λ x. x; right = λ x. x; joined = λ r l. r; depth = λ x. 0 }
 
--- this value was read, and 5 shown
+-- the value `read` was read, and 5 was output
 abbrev pub showed : (read : ℕ) → Course
 showed v = act (act nothing (Read 0 (pos v)) 1) (Out (pos 5)) 2
 
 pub record Reads : Type 0 where
   pub goes : Goes reader reads (showed 5) over
-  -- not where another value was read
+  -- it is no course if another value was read
   pub other : Stops reader reads (showed 4) → ⊥
 
 -- ## Two strands, and what is behind them
@@ -66,15 +67,15 @@ spawns = script.fork (script.act (Shows (pos 1)) script.done) (script.act (Shows
 abbrev pub shown : (value stamp : ℕ) → Course
 shown value stamp = act nothing (Out (pos value)) stamp
 
--- what the right strand did
+-- a fork whose right strand did this
 abbrev pub spawned : (right : Course) → Course
 spawned right = fork nothing (Some 1) 1 (shown 1 2) right
 
 pub record Forks : Type 0 where
   pub goes : Goes (scripted spawns) spawns (act (spawned (shown 2 3)) (Out (pos 3)) 4) script.done
-  -- not where the right strand did what the left one does
+  -- it is no course if the right strand did what the left one does
   pub sides : Stops (scripted spawns) spawns (spawned (shown 1 3)) → ⊥
-  -- it may stop before the right strand ended, but goes on behind the fork only then
+  -- it may stop before the right strand ended, but goes on behind the fork only after that
   pub stops : Stops (scripted spawns) spawns (spawned nothing)
   pub behind : Stops (scripted spawns) spawns (act (spawned nothing) (Out (pos 3)) 4) → ⊥
 
@@ -90,10 +91,10 @@ pub record Blocks : Type 0 where
   -- it may be pending as the strand stops, or be rolled back and begun again
   pub pending : Stops (scripted shows_in_block) shows_in_block (block nothing Pending 1 0 nothing)
   pub again : Goes (scripted shows_in_block) shows_in_block (block (block nothing Aborted 1 2 nothing) Committed 3 5 (shown 1 4)) script.done
-  -- but is not committed where it broke off
+  -- it is not committed if it broke off
   pub broken : Stops (scripted shows_in_block) shows_in_block (block nothing Committed 1 2 nothing) → ⊥
 
--- ## A block that is given up
+-- ## A block that is cancelled
 --
 -- cell c; fn main() { atomic { c = 1; cancel; } }
 
@@ -101,7 +102,7 @@ pub data Quitter : Type 0 where
   begins : Quitter
   writes : Quitter
   gives_up : Quitter
-  -- this is left to be written back
+  -- these elements are still to be written back
   puts_back : List Back → Quitter
   ended : Quitter
 
@@ -123,7 +124,7 @@ quitter_next x given = ended
 abbrev pub quitter : Strands Quitter
 quitter = record { elements = 1; start = begins; want = quitter_wants; answer = quitter_next; left = λ x. x; right = λ x. x; joined = λ r l. r; depth = λ x. 0 }
 
--- it was answered this cell with the value 0, and wrote this back
+-- it was answered this cell with the value 0, and wrote `written` back
 abbrev pub quit : (cell written : ℕ) → Course
 quit c v =
     block nothing Committed 1 5
@@ -131,9 +132,9 @@ quit c v =
 
 pub record Cancels : Type 0 where
   pub goes : Goes quitter begins (quit 0 0) ended
-  -- not where another value was written back
+  -- it is no course if another value was written back
   pub other : Stops quitter begins (quit 0 4) → ⊥
-  -- nor where it was answered a cell that is not there
+  -- nor if it was answered a cell that does not exist
   pub there : Stops quitter begins (quit 1 0) → ⊥
 
 -- ## One of two sums is lost
@@ -179,7 +180,7 @@ pub record Nests : Type 0 where
       ≡ plain 0 Strand 0 ∷ plain 0 Fork 1 ∷ plain 1 Strand 0 ∷ committed 2 2 6 ∷ plain 3 (Write 0 (pos 1)) 3
       ∷ plain 1 Strand 0 ∷ aborted 5 4 8 ∷ aborted 6 5 7 ∷ plain 7 (Tried 0) 0 ∷ committed 5 9 13 ∷ committed 9 10 12 ∷ plain 10 (Write 0 (pos 2)) 11 ∷ []
 
--- the logs, with the conflict that the board told of the refused access
+-- the logs, with the conflict that the board told for the refused access
 abbrev pub nested_logs : List Log
 nested_logs =
     log 0 0 0 (plain 0 Strand 0 ∷ plain 0 Fork 1 ∷ plain 1 Strand 0 ∷ committed 2 2 6 ∷ plain 3 (Write 0 (pos 1)) 3 ∷ [])
@@ -188,14 +189,14 @@ nested_logs =
     { conflicts = record refused_write { asker = 3 } ∷ [] }
     ∷ []
 
--- a board that is closed with them, and tells these conflicts
+-- what a board with these conflicts gives when it is closed with the logs
 abbrev pub finished_with : List Conflict → Closed
 finished_with cs = record { tree = two_blocks; journals = two_writes ∷ []; conflicts = cs; halt = None }
 
 pub record Finishes : Type 0 where
   pub worked : AreWorked (scripted nests) nested_logs None
   pub closing : IsClosing (pos 0 ∷ []) 2 nested_logs None (finished_with (refused_write ∷ []))
-  -- not where the conflict is not told
+  -- it is no closing if the conflict is left out
   pub silent : IsClosing (pos 0 ∷ []) 2 nested_logs None (finished_with []) → ⊥
 
 -- ## A block that was rolled back, a fork in it whose right strand has a log of its own, and an inline fork behind it
@@ -211,11 +212,11 @@ mixes =
 abbrev pub written : (value stamp : ℕ) → Course
 written value stamp = act nothing (Write 0 (pos value)) stamp
 
--- what its strands did: of the strands alone, since no conflict says why the block was rolled back
+-- What its strands did. Only strands are meant here: no conflict says why the block was rolled back.
 abbrev pub mixed : Course
 mixed = fork (block (block nothing Aborted 1 3 (fork nothing (Some 1) 2 nothing nothing)) Committed 4 8 (fork nothing (Some 2) 5 (written 1 6) (written 2 7))) None 9 (shown 1 10) (shown 2 11)
 
--- the logs, where that of the second right strand hangs from this node
+-- the logs, if the log of the second right strand hangs from the node `at`
 abbrev pub logs_at : (at : ℕ) → List Log
 logs_at at =
     log 0 0 0
@@ -232,14 +233,14 @@ pub record Mixes : Type 0 where
       ∷ plain 2 Strand 0 ∷ plain 5 Strand 0 ∷ plain 14 (Write 0 (pos 2)) 7 ∷ []
   pub states : HasStates (scripted mixes) mixed (logs_at 5)
   pub worked : AreWorked (scripted mixes) (logs_at 5) None
-  -- not where a log hangs from another fork
+  -- they are no logs of it if one hangs from another fork
   pub hung : AreWorked (scripted mixes) (logs_at 2) None → ⊥
 
 -- ## Logs of a run that stopped, and a board that is closed with them
 --
 -- cell c; fn main() { spawn { atomic { c = 1; } } atomic { spawn { c = 2; } } }
 
--- the strand that the right one spawned was refused in the block of that, which has no attempt left
+-- The strand that the right one spawned was refused. It stands in a block of the right one, which has no attempt left.
 abbrev pub spent : Course
 spent =
     fork nothing (Some 1) 1 (block nothing Pending 2 0 (written 1 3))
@@ -255,13 +256,13 @@ spent_logs =
 abbrev pub stopped : Stop
 stopped = record { halt = Budget 0; column = 1; strand = 3 }
 
--- a board that tells this strand as the one that spent its budget
+-- what a board gives that names `strand` as the one that spent its budget
 abbrev pub closed_by : (strand : ℕ) → Closed
 closed_by x = record { tree = ends.spawned; journals = (ends.entry 3 (pos 1) (pos 0) ∷ []) ∷ []; conflicts = ends.refused_in_block ∷ []; halt = Some (Budget x) }
 
 pub record Closes : Type 0 where
   pub worked : AreWorked (scripted ends.spawns) spent_logs (Some stopped)
-  -- it is the strand that began the victim, and not the one that was refused
+  -- that is the strand that began the victim, and not the one that was refused
   pub closing : IsClosing (pos 0 ∷ []) 1 spent_logs (Some stopped) (closed_by 5)
   pub refused : IsClosing (pos 0 ∷ []) 1 spent_logs (Some stopped) (closed_by 8) → ⊥
 
