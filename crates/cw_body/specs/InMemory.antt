@@ -1,4 +1,4 @@
--- What a body keeps for what it stands for: where it stands is inside each of the blocks around it.
+-- What a body keeps for what it stands for: its strand is inside each of the blocks around it.
 use Rattle.std.specs.Prelude.{◌≡◌, ◌≤◌, ◌-◌, ℕ, suc, List, [], ◌∷◌, map}
 use Rattle.cw_code.specs.declared.program.Program.{Program}
 use Rattle.cw_strand.specs.declared.want.Want.TheVariants as want
@@ -16,7 +16,7 @@ use Rattle.cw_body.specs.Bodies.{PendingBegin, InBlocks, strands_of_program}
 abbrev pub begin_of : Begin → StrandState
 begin_of b = state_of b.at.value
 
--- what is seen of a begin from a strand that is the right one of so many forks
+-- a begin as seen from a strand that is the right strand of `level` forks
 abbrev pub shown : (level : ℕ) → Begin → PendingBegin
 shown level b = record { at = begin_of b; forks = level - b.level }
 
@@ -26,17 +26,18 @@ in_blocks x = record { program = x.program.value; stage = x.stage.value; state =
 -- ## Inside each block
 
 module _ (s : Strands StrandState) where
-  -- A strand of this level is inside the block of this begin, with so many blocks begun inside and not ended.
+  -- A strand of this level is inside the block of begin `b`, and has begun `inner` blocks inside that it has not ended.
   pub record IsInside (level : ℕ) (there : StrandState) (inner : ℕ) (b : Begin) : Type 0 where
     pub since : b.level ≤ level
     pub inside : Inside s (begin_of b) (level - b.level) inner there
 
-  -- it is inside each of these, and inside one of them each of those before it is begun and not ended
+  -- the strand is inside the block of each begin, and each block has begun, and not ended, one block more than the one before it in
+  -- the list
   abbrev pub IsInsideEach : (level : ℕ) → (there : StrandState) → (inner : ℕ) → List Begin → Type 0
   IsInsideEach level there inner [] = Unit {0}
   IsInsideEach level there inner (b ∷ bs) = IsInside level there inner b × IsInsideEach level there (suc inner) bs
 
-  -- a strand that gave up somewhere inside
+  -- a strand that gave up somewhere inside the block of begin `b`
   pub record GaveUpInside (level : ℕ) (there : StrandState) (b : Begin) : Type 0 where
     pub since : b.level ≤ level
     pub forks : ℕ
@@ -53,7 +54,7 @@ module _ (program : Program) where
   abbrev s : Strands StrandState
   s = strands_of_program program
 
-  -- each begin was kept, and is inside the blocks around it
+  -- the begin was saved, and lies inside the blocks around it
   pub record IsKept (b : Begin) (around : List Begin) : Type 0 where
     pub saved : IsSavedOf program b.saved (begin_of b)
     pub begins : s.want (begin_of b) ≡ want.Begin
@@ -63,7 +64,7 @@ module _ (program : Program) where
   AreKept [] = Unit {0}
   AreKept (b ∷ bs) = IsKept b bs × AreKept bs
 
-  -- how a strand stands in these blocks
+  -- how a strand in these blocks stands, by its stage
   abbrev pub StandsSo : Stage → (level : ℕ) → Standing → List Begin → Type 0
   StandsSo Goes level x bs = IsOf program x × IsInsideEach s level (state_of x) 0 bs
   StandsSo GaveUp level x bs = GaveUpInsideEach s level (state_of x) bs

@@ -2,8 +2,8 @@ use cw_job::Standing;
 use cw_strand::Saved;
 use std::snapshot::Snapshot;
 
-/// The begin of a pending block: what is kept of it, and of how many forks its strand was the right one. The strand there is for contracts
-/// alone.
+/// The begin of a pending block: what was saved of it, and the number of forks of which its strand was the right one. Only
+/// contracts see `at`, the strand at that begin.
 #[derive(Drop)]
 pub(crate) struct Begin {
     pub(crate) saved: Saved,

@@ -17,8 +17,8 @@ use std::alloc::Global;
 use std::marker::Model;
 use std::snapshot::Snapshot;
 
-/// A strand at its want, of how many forks it is the right strand since it began as a left one or as main, and the begins of the pending
-/// blocks around it: its own, and those of the strands that it continues as a right one.
+/// A strand at its want. `level` is the number of forks of which it is the right strand, counted since it began as a left strand or
+/// as main. `begins` are those of the pending blocks around it: its own, and those of the strands that it continues as a right one.
 #[derive(Drop)]
 pub struct Body {
     standing: Standing,
@@ -41,7 +41,7 @@ impl Model for Body {
 }
 
 impl Body {
-    /// The strand of main, at its first want.
+    /// Starts the strand of main, at its first want.
     pub fn start(
         alloc: Global,
         program: &Program,
@@ -62,14 +62,14 @@ impl Body {
         })
     }
 
-    /// What it stands at.
+    /// Returns the want at which the strand stands.
     pub fn want(&self) -> Want
         ensures { (job : Job) → result ≡ (strands_of_job job).want self.now.state }
     {
         self.standing.want()
     }
 
-    /// Goes on from an access, an output or a cancel to its next want.
+    /// Answers an access, an output or a cancel with `given`, and goes on to the next want.
     pub fn answer(&mut self, given: Given, program: &Program) -> Result<(), OutOfMemory>
         requires goes { self.old.stage ≡ Goes }
         requires program { program.now ≡ self.old.program }
@@ -83,7 +83,7 @@ impl Body {
         Ok(())
     }
 
-    /// What is kept of the begin that it wants.
+    /// Saves what is needed to come back to the begin that the strand wants.
     pub fn save(&self) -> Result<Saved, OutOfMemory>
         requires goes { self.now.stage ≡ Goes }
         requires begin { want_of self.now ≡ Want.Begin }
@@ -92,7 +92,7 @@ impl Body {
         self.standing.save()
     }
 
-    /// The block that it wants has begun, and this was kept of its begin.
+    /// Enters the block whose begin the strand wants. `saved` is what `save` returned for that begin.
     pub fn begins(&mut self, saved: Saved, program: &Program) -> Result<(), OutOfMemory>
         requires goes { self.old.stage ≡ Goes }
         requires program { program.now ≡ self.old.program }
@@ -113,7 +113,7 @@ impl Body {
         Ok(())
     }
 
-    /// Its innermost block, of which it wants the end, has ended.
+    /// Leaves the innermost block, whose end the strand wants.
     pub fn ends(&mut self, program: &Program) -> Result<(), OutOfMemory>
         requires goes { self.old.stage ≡ Goes }
         requires program { program.now ≡ self.old.program }
@@ -129,7 +129,7 @@ impl Body {
         Ok(())
     }
 
-    /// The left strand of the fork that it wants. This one goes on as the right strand.
+    /// Forks: returns the left strand of the fork that this strand wants, and goes on as the right one.
     pub fn fork(&mut self, alloc: Global, program: &Program) -> Result<Body, OutOfMemory>
         requires goes { self.old.stage ≡ Goes }
         requires program { program.now ≡ self.old.program }
@@ -154,7 +154,7 @@ impl Body {
         })
     }
 
-    /// As the right strand of a fork, at its end, becomes the strand that forked and goes on to its next want. The left strand is at its
+    /// Joins a fork: this right strand, at its end, becomes the strand that forked, and goes on to its next want. `left` is at its
     /// end, too.
     pub fn join(&mut self, left: Body, program: &Program) -> Result<(), OutOfMemory>
         requires goes { self.old.stage ≡ Goes }
@@ -172,7 +172,7 @@ impl Body {
         Ok(())
     }
 
-    /// It dies or stops: it goes no further from where it stands.
+    /// Gives up: the strand dies or stops, and goes no further from where it stands.
     pub fn gives_up(&mut self)
         requires { self.old.stage ≢ Lost }
         ensures { self.new ≡ gave_up self.old }
@@ -180,7 +180,7 @@ impl Body {
         self.stage = Snapshot::of(&Stage::GaveUp);
     }
 
-    /// Its innermost block was rolled back, and it goes back further than that.
+    /// Forgets the innermost block, which was rolled back, since the strand goes back further than that.
     pub fn forget(&mut self)
         requires stage { self.old.stage ≡ GaveUp }
         requires block { 0 < length self.old.begins }
@@ -189,7 +189,7 @@ impl Body {
         let _rolled = self.begins.pop();
     }
 
-    /// Its innermost block was rolled back, and is to be tried again: it stands at its begin. Takes no memory.
+    /// Goes back to the begin of the innermost block, which was rolled back, to try it again. Takes no memory.
     pub fn back(&mut self)
         requires stage { self.old.stage ≡ GaveUp }
         requires block { 0 < length self.old.begins }

@@ -1,7 +1,7 @@
-//! A strand and what it needs to go back, in one type.
-//! Stands on `cw_base`, `cw_code`, `cw_strand` and `cw_job`.
-//! Contracts cite `specs/Bodies.antt`: what a body stands for, a strand in the pending blocks around it, and what each call makes of it.
-//! `specs/InMemory.antt` says what a body keeps for it: where it stands is inside each of these blocks.
+//! A strand in memory, together with what it needs to go back to the begins of the pending blocks around it.
+//! Use it in a driver that rolls blocks back; where nothing is rolled back, `Standing` of `cw_job` is enough.
+//! Contracts cite `specs/Bodies.antt`: what a body stands for, and what each call makes of it. `specs/InMemory.antt` says what a
+//! body keeps for that.
 #![tactic(auto)]
 
 mod begin;
