@@ -1,5 +1,5 @@
--- What comes home with a turn: the tier that lay there, with the columns that were drawn since, but for what is told; or the cell, with the
--- access that was drawn since, or with some of the newest entries undone.
+-- What comes home when a turn is given back. A tier comes as it lay, with the columns that were drawn since, except for what `Home`
+-- tells. A cell comes with the access that was drawn since, or with some of its newest entries undone.
 use Rattle.std.specs.Prelude.{◌≡◌, ◌⊎◌, ℕ, ◌+◌, ◌<◌, ◌%◌, nat_lt, Bool, true, false, filter, Option, Some, None, IsSomeAnd}
 use Rattle.cw_log.specs.declared.token.Phase.{Phase}
 use Rattle.cw_log.specs.declared.token.Phase.TheVariants.{Parted}
@@ -17,28 +17,29 @@ use Rattle.cw_steps.specs.declared.view.Slot.{Slot}
 use Rattle.cw_steps.specs.declared.view.Slot.TheVariants as slot
 use Rattle.cw_steps.specs.Views.{newest_aim, newest_cell, newest_tier, newest_used, view_of, Holding, IsWhole}
 
--- in these columns this is the left one of a fork, which is split, or is not
+-- in these columns, `f` is the left column of a fork that is split, or of one that is not
 abbrev pub IsForkThere : (split : Bool) → ColumnTable → (fork : ℕ) → Type 0
 IsForkThere split c f = (f < columns.used c) × (f % 2 ≡ 1) × (columns.is_trace c f ≡ split)
 
--- the fork was not split and could be, and now it is
+-- the fork was not split and could be split, and now it is
 pub record IsSplitNow (fork : ℕ) (lay come : ColumnTable) : Type 0 where
   pub whole : IsForkThere false lay fork
   pub first : columns.before_split lay fork ≡ None
   pub now : come ≡ columns.split_at fork lay
 
--- nothing changed; if the fork was there and not split, this is the next one outward that has to be before it
+-- Nothing changed. If the fork was there and not split, `before` is the next fork outward, which has to be split first.
 pub record IsTooEarly (fork before : ℕ) (lay come : ColumnTable) : Type 0 where
   pub next : IsForkThere false lay fork → columns.before_split lay fork ≡ Some before
   pub same : come ≡ lay
 
--- the fork was split, and its traces are put together; or it was not, and nothing changed
+-- the fork was split and its traces are now merged; or it was not split, and nothing changed
 pub record IsMergedNow (fork : ℕ) (lay come : ColumnTable) : Type 0 where
   pub now : IsForkThere true lay fork → come ≡ columns.merged fork lay
   pub same : (IsForkThere true lay fork → ⊥) → come ≡ lay
 
--- with the tier's turn, of a strand that began with this fork and is for this, and took the turn for that: as many columns are told as there are,
--- inline only where there are not two more, and the split or merge of just its own fork
+-- What may be told with the tier's turn by a strand that began with fork `f`, has phase `p` and took the turn for `a`. It tells as
+-- many columns as there are. It tells an inline fork only if there is no room for two more columns, and a split or a merge only of
+-- its own fork.
 abbrev pub Brings : (fork : ℕ) → Phase → Aim → Home → (lay come : ColumnTable) → Type 0
 Brings f p a home.Plain c d = d ≡ c
 Brings f p a (home.Refused k) c d = ⊥
@@ -47,7 +48,7 @@ Brings f p a (home.Split g used) c d = (a ≡ aims.Split) × (g ≡ f) × (used 
 Brings f p a (home.Early before used) c d = (a ≡ aims.Split) × (used ≡ columns.used c) × IsTooEarly f before c d
 Brings f p a (home.Merge g used) c d = (a ≡ aims.Merge) × (p ≡ Parted g) × (used ≡ columns.used c) × IsMergedNow g c d
 
--- of what lies in the slot now, where this tier lay
+-- what the slot holds now may come home, if this tier lay there
 abbrev pub ComesHome : (fork : ℕ) → Phase → Aim → Home → (lay : Option Traces) → Slot → Type 0
 ComesHome f p a m lay (slot.Tier x) = IsSomeAnd lay (λ y. Brings f p a m y.columns x.columns)
 ComesHome f p a m lay (slot.Cell x) = Unit {0}
@@ -57,7 +58,7 @@ ComesHome f p a m lay slot.Empty = Unit {0}
 abbrev pub IsAsItLay : (lay come : CellParts) → Type 0
 IsAsItLay c d = (d.first ≡ c.first) × (d.entries ≡ c.entries)
 
--- or those with smaller stamps than this one
+-- the entries are those that lay there with stamps smaller than `stamp`
 pub record IsCutBack (lay come : CellParts) : Type 0 where
   pub stamp : ℕ
   pub first : come.first ≡ lay.first
@@ -80,13 +81,13 @@ IsOfCell n (home.Split g used) = ⊥
 IsOfCell n (home.Early before used) = ⊥
 IsOfCell n (home.Merge g used) = ⊥
 
--- of what lies in the slot now, where this cell lay
+-- what the slot holds now may come home, if this cell lay there
 abbrev pub CellComesHome : (cell : ℕ) → Home → Aim → (lay : Option CellParts) → Slot → Type 0
 CellComesHome n m a lay (slot.Cell x) = IsOfCell n m × IsSomeAnd lay (λ y. LeavesCell a y x)
 CellComesHome n m a lay (slot.Tier x) = Unit {0}
 CellComesHome n m a lay slot.Empty = Unit {0}
 
--- The newest turn is that of slot n, and what lies there is whole and comes home with this.
+-- The newest turn is that of slot `n`. What lies there is whole, and may come home with `m`.
 pub record MayGive (key : Key) (t : StrandToken) (n : ℕ) (m : Home) : Type 0 where
   pub lies : Slot
   pub held : Holding t n lies

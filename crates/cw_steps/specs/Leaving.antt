@@ -1,4 +1,4 @@
--- What a table leaves that is closed: where each log begins in the tree, and what lay in the slots.
+-- What a closed table leaves: where each log begins in the tree, and what lay in the slots.
 use Rattle.std.specs.Prelude.{◌≡◌, ℕ, ◌≤◌, List, ◌∷◌, ◌++◌, length, Some, None, slice_get}
 use Rattle.std.specs.List.Sorted.{IsStrictlyIncreasing}
 use Rattle.atomic_table.specs.Table.{Me}
@@ -29,28 +29,29 @@ logs_of_track c = (track_of c).own ∷ (track_of c).joined
 abbrev pub nodes_in : List Log → ℕ
 nodes_in = total (λ (l : Log). length l.nodes)
 
--- This table has, for each column of these logs, where the log begins whose column it is; whatever comes behind them.
+-- For each column of these logs, the table tells where the log of that column begins, whatever logs follow behind them.
 pub record HasBases (b : Bases) (ls : List Log) : Type 0 where
   pub found : (column base : ℕ) → slice_get b.table.items column ≡ Some (Some base) → (more : List Log) → base_of (ls ++ more) column ≡ base
   pub free : (column : ℕ) → slice_get b.table.items column ≡ Some None → HasNone column ls
   pub count : b.count ≡ nodes_in ls
   pub apart : AreApart ls
 
--- it is committed and has no end
+-- the node is committed and has no end
 abbrev pub IsPlain : Node → Type 0
 IsPlain x = (x.state ≡ Committed) × (x.end ≡ 0)
 
 -- ## What lay in the slots
 
--- it took turns and gave them back, and did nothing else
+-- the seat took turns and gave them back, and did nothing else
 pub record HasReturned (me me' : Me Slot View) : Type 0 where
   pub seen : ℕ
   pub notes : List Note
   pub later : me.0.seen ≤ seen
   pub after : me' ≡ (record me.0 { seen = seen; notes = notes }, me.1)
 
--- These are the entries of the cell that lay in slot n when the seat, which had done nothing but look, took its turn: their stamps rise, and each
--- has the value that those before it left.
+-- Some entries that may have lain in the cell of slot `n`: after some looks (turns taken and given back), the seat may have taken
+-- the turn of slot `n` and found a cell with the entries `es`. Their stamps rise, and each entry has the value that those before it
+-- left.
 pub record IsFoundJournal (key : Key) (me : Me Slot View) (n : ℕ) (es : List Entry) : Type 0 where
   pub before : Me Slot View
   pub after : Me Slot View
@@ -62,7 +63,7 @@ pub record IsFoundJournal (key : Key) (me : Me Slot View) (n : ℕ) (es : List E
   pub rising : IsStrictlyIncreasing (stamps es)
   pub steps : AreSteps cell.first es
 
--- one for each cell
+-- one such journal for each cell
 pub record AreFoundJournals (key : Key) (me : Me Slot View) (js : List (List Entry)) : Type 0 where
   pub many : length js ≡ cells_of key
   pub each : (n : ℕ) (es : List Entry) → slice_get js n ≡ Some es → IsFoundJournal key me n es

@@ -23,7 +23,7 @@ abbrev pub open_forks : List Stood → List (List ℕ) → List Open
 open_forks [] ws = []
 open_forks (o ∷ os) ws = record { side = o.side; strand = o.strand; place = o.place; around = innermost ws } ∷ open_forks os (outwards ws)
 
--- with these blocks around the places where it and the strands that wait stand
+-- the token, if these blocks are around its place and the places of the strands that wait
 abbrev pub stands_over : TrackParts → List (List ℕ) → View → Option Stop → Token
 stands_over c ws v stop = record {
   own = c.own;
@@ -45,12 +45,12 @@ stands_for c v stop = stands_over c (caught_up c.behind c.second v.arounds) v st
 abbrev pub token_of : StrandToken → Token
 token_of t = stands_for (track_of t.track) (view_of t) t.stop
 
--- so many blocks are around the fork in whose strand it stands
+-- the number of blocks around the innermost fork in whose strand it stands
 abbrev pub blocks_outside : List Open → ℕ
 blocks_outside [] = 0
 blocks_outside (o ∷ os) = length o.around
 
--- an end is that of a block, which was begun in its strand
+-- if the draw is an end, it ends a block that was begun in the token's strand
 abbrev pub EndsBlock : Draw → Token → Type 0
 EndsBlock (draw.End aborted) x = tokens.HasBlock x × (blocks_outside x.forks < length x.around)
 EndsBlock (draw.Access c wrote v) x = Unit {0}
@@ -60,7 +60,7 @@ EndsBlock draw.Begin x = Unit {0}
 
 -- ## What steps make of it
 
--- the right strand of a fork that was made where the left one began
+-- the token of the right strand of a fork that was made in the log of `x`
 abbrev pub right_token : (left : Token) → Ahead → Token
 right_token x a = record {
   own = fresh_log a.column x.own.column a.node;

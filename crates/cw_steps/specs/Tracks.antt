@@ -26,7 +26,7 @@ use Rattle.cw_steps.specs.declared.draw.Draw.TheVariants as draw
 use Rattle.cw_steps.specs.declared.draw.Home.{Home}
 use Rattle.cw_steps.specs.declared.draw.Home.TheVariants as home
 
--- What is seen of a track; the strands that wait and the pending blocks are listed innermost first
+-- What contracts see of a track. The strands that wait and the pending blocks are listed innermost first.
 pub record TrackParts : Type 0 where
   pub own : Log
   pub joined : List Log
@@ -59,7 +59,7 @@ track_of c = record {
   second = c.second;
 }
 
--- it has room for so many nodes, conflicts and forks more, and for one right strand
+-- it has room for `n` more nodes, conflicts, forks and pending blocks
 pub record IsReady (c : Track) (n : ℕ) : Type 0 where
   pub few : length c.nodes.items + n < 2 ^ 32
   pub nodes : vec_len c.nodes + n ≤ vec_capacity c.nodes
@@ -67,7 +67,7 @@ pub record IsReady (c : Track) (n : ℕ) : Type 0 where
   pub forks : vec_len c.outer + n ≤ vec_capacity c.outer
   pub blocks : vec_len c.pending + n ≤ vec_capacity c.pending
 
--- with room for so many pending blocks
+-- what is spare has room for `n` pending blocks
 abbrev pub HasSpare : (n : ℕ) → Option Spare → Type 0
 HasSpare n None = ⊥
 HasSpare n (Some s) = n ≤ vec_capacity s.pending
@@ -76,18 +76,18 @@ HasSpare n (Some s) = n ≤ vec_capacity s.pending
 abbrev pub CanPart : Track → Type 0
 CanPart c = HasSpare (length c.pending.items) c.spare
 
--- it may be taken in by another token's list
+-- it may be taken into another token's list
 abbrev pub HasRoom : Track → Type 0
 HasRoom c = IsTrue (is_some c.room)
 
 abbrev pub fresh_log : (column from fork : ℕ) → Log
 fresh_log column from fork = record { column = column; from = from; fork = fork; nodes = fresh_node 0 Strand 0 ∷ []; conflicts = [] }
 
--- the nodes end with none, or with one of another kind
+-- no rolled-back blocks and no refused accesses at the end
 abbrev pub plain_tail : Tail
 plain_tail = record { aborted = 0; tried = 0; cell = 0 }
 
--- nothing was done yet
+-- a track on which nothing was done yet
 abbrev pub fresh_track : (column from fork gap : ℕ) → TrackParts
 fresh_track column from fork gap = record {
   own = fresh_log column from fork;
@@ -110,22 +110,22 @@ fresh_track column from fork gap = record {
 abbrev pub begins : List Above → List ℕ
 begins blocks = map (λ (a : Above). a.begin) blocks
 
--- the n that were begun first, of blocks that are listed innermost first
+-- the `n` blocks that were begun first, in a list with the innermost first
 abbrev pub first_begun : (n : ℕ) → List Above → List Above
 first_begun n blocks = drop (length blocks - n) blocks
 
--- one attempt more, of which no more are counted than a number of 32 bits holds
+-- one more attempt, counted up to the largest 32-bit number
 abbrev pub one_more : ℕ → ℕ
 one_more n = min (n + 1) (2 ^ 32 - 1)
 
--- a block that was rolled back is one attempt
+-- a block that was rolled back counts as one attempt
 abbrev pub tail_behind : BlockState → Option Above → Tail
 tail_behind Aborted (Some a) = record plain_tail { aborted = a.attempt }
 tail_behind Aborted None = plain_tail
 tail_behind Committed a = plain_tail
 tail_behind Pending a = plain_tail
 
--- so many refused accesses of a cell come last
+-- the number of refused accesses of this cell at the end
 abbrev pub tries_of : Tail → (cell : ℕ) → ℕ
 tries_of t c = if t.cell == c then t.tried else 0
 
@@ -149,22 +149,22 @@ state_of_end false = Committed
 abbrev pub track_with_nodes : TrackParts → List Node → TrackParts
 track_with_nodes c ns = record c { own = record c.own { nodes = ns } }
 
--- a draw is made behind all forks that it went behind
+-- before a draw, the track is done with all forks behind which it went
 abbrev pub settled : TrackParts → TrackParts
 settled c = record c { behind = 0; second = false }
 
--- a node more in its place
+-- one more node in its place
 abbrev pub made_at : TrackParts → Kind → (stamp : ℕ) → TrackParts
 made_at c k stamp = record (track_with_nodes c (c.own.nodes ++ fresh_node c.place k stamp ∷ [])) { tail = plain_tail }
 
--- a block more in its place, in which it goes on
+-- one more block in its place; it goes on inside
 abbrev pub track_in_block : TrackParts → (stamp : ℕ) → TrackParts
 track_in_block c stamp = record (made_at c Block stamp) {
   place = length c.own.nodes;
   pending = record { begin = stamp; column = c.column; attempt = one_more c.tail.aborted } ∷ c.pending;
 }
 
--- the block in its place is closed, and it goes on behind that
+-- the block in its place is closed, and it goes on behind that block
 abbrev pub closed_at : TrackParts → BlockState → (end : ℕ) → TrackParts
 closed_at c state end = record (track_with_nodes c (closed c.own.nodes c.place state end)) {
   place = parent_of c.own.nodes c.place;
@@ -172,12 +172,12 @@ closed_at c state end = record (track_with_nodes c (closed c.own.nodes c.place s
   tail = tail_behind state (innermost_of c.pending);
 }
 
--- where its strand stands, which waits on this side of a fork
+-- where its strand stands while it waits on this side of a fork
 abbrev pub stood_in : Side → TrackParts → Stood
 stood_in side c = record { side = side; strand = c.strand; place = c.place; column = c.column; gap = c.gap; word = c.word; pending = length c.pending }
 
 module _ (shared : Bool) where
-  -- how many strands of fork n get a node of this log: both where they share a column
+  -- the strands of fork node `n` that get a node in this log: both, if they share a column
   abbrev pub strands_in : ℕ → List Node
   strands_in n = if shared then fresh_node n Strand 0 ∷ fresh_node n Strand 0 ∷ [] else fresh_node n Strand 0 ∷ []
 
@@ -190,8 +190,8 @@ module _ (shared : Bool) where
   abbrev pub ahead_in : (n left right gap : ℕ) → Option Ahead → Option Ahead
   ahead_in n left right gap old = if shared then old else Some (record { fork = left; node = n; column = right; gap = gap })
 
-  -- a fork more with its left strand, in which it goes on, and with its right one too where both share a column; the word of a gap of a new
-  -- column is 0
+  -- One more fork with its left strand, in which it goes on; with its right strand too, if both share a column. The gap word of a
+  -- new column is 0.
   abbrev pub forked_in : TrackParts → (left right gap stamp : ℕ) → TrackParts
   forked_in c left right gap stamp =
       let n = length c.own.nodes in
@@ -209,7 +209,7 @@ module _ (shared : Bool) where
 abbrev pub forked_at : TrackParts → (left right gap stamp : ℕ) → TrackParts
 forked_at c left right gap stamp = forked_in (left == right) c left right gap stamp
 
--- so many nodes a draw adds at most
+-- the most nodes that a draw adds
 abbrev pub added : Draw → ℕ
 added (draw.Access c wrote v) = 1
 added (draw.Fork left right gap) = 3
@@ -230,7 +230,7 @@ with_word x c = record c { word = x }
 
 -- ## What comes with a turn that is given back
 
--- a refused access more, with its conflict
+-- one more refused access, with its conflict
 abbrev pub refused_at : TrackParts → Conflict → TrackParts
 refused_at c x = record c {
   own = record c.own {
@@ -256,7 +256,7 @@ added_home (home.Merge fork used) = 0
 added_home (home.Inline used) = 0
 added_home (home.Early before used) = 0
 
--- ## What its seat's view has of it
+-- ## What its seat's view knows of it
 
 abbrev pub coming_of : Option Ahead → Option Coming
 coming_of None = None
@@ -281,7 +281,7 @@ abbrev pub arounds_of : List Above → List Stood → List (List ℕ)
 arounds_of blocks [] = begins blocks ∷ []
 arounds_of blocks (o ∷ os) = begins blocks ∷ arounds_of (first_begun o.pending blocks) os
 
--- and none is around a strand that waits but not around those further in
+-- each block around a strand that waits is also around those further in
 abbrev pub are_within : (n : ℕ) → List Stood → Bool
 are_within n [] = true
 are_within n (o ∷ os) = nat_le o.pending n && are_within o.pending os
@@ -305,26 +305,27 @@ abbrev pub column_or : Option Stood → ℕ
 column_or None = 0
 column_or (Some o) = o.column
 
--- the column of a strand in which it stands, its own or one that waits, or 0
+-- the column of a strand in which it stands: its own, that of one that waits, or 0
 abbrev pub column_of_strand : TrackParts → (strand : ℕ) → ℕ
 column_of_strand c n = if n == c.strand then c.column else column_or (find (λ (o : Stood). o.strand == n) c.outer)
 
 -- ## Tokens split off and taken in
 
--- the token of the right strand was split off
+-- after the token of the right strand was split off
 abbrev pub parted : TrackParts → TrackParts
 parted c = record (settled c) { ahead = None }
 
--- the right strand, before it has done anything; its log hangs from the log with the column `from`, and these blocks are around it
+-- The right strand, before it has done anything. Its log hangs from the log with column `from`, and the blocks `around` are around
+-- it.
 abbrev pub right_track : (from : ℕ) → (around : List Above) → Option Ahead → TrackParts
 right_track from around None = record (fresh_track 0 from 0 0) { pending = around }
 right_track from around (Some a) = record (fresh_track a.column from a.node a.gap) { pending = around }
 
--- of a token that only carries a note
+-- the track of a token that only carries a note
 abbrev pub note_track : (column gap : ℕ) → TrackParts
 note_track column gap = record (fresh_track column 0 0 gap) { own = record (fresh_log column 0 0) { nodes = [] } }
 
--- where the innermost strand stands that waits
+-- it stands where the innermost waiting strand stood
 abbrev pub stood_by : TrackParts → List Stood → TrackParts
 stood_by c [] = c
 stood_by c (o ∷ os) = record c {
@@ -338,7 +339,7 @@ stood_by c (o ∷ os) = record c {
   tail = plain_tail;
 }
 
--- the innermost strand waits for a fork whose right strand has a token of its own
+-- this side is that of a strand whose right strand has a token of its own
 abbrev pub IsBeside : Side → Type 0
 IsBeside (Beside fork) = Unit {0}
 IsBeside (First right) = ⊥
@@ -348,6 +349,6 @@ abbrev pub WaitsBeside : List Stood → Type 0
 WaitsBeside [] = ⊥
 WaitsBeside (o ∷ os) = IsBeside o.side
 
--- the strand that forked, with the logs of both
+-- the strand that forked, with the logs of both strands
 abbrev pub joined_track : (left right : TrackParts) → TrackParts
 joined_track c d = record (stood_by (settled c) c.outer) { joined = c.joined ++ d.own ∷ d.joined }

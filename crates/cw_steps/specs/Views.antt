@@ -29,7 +29,7 @@ use Rattle.cw_steps.specs.declared.table.StrandToken.{StrandToken}
 abbrev pub cells_of : Key → ℕ
 cells_of key = length key.first
 
--- so many numbers belong to a column: a log has at most 2 ^ 32 nodes, of which each takes at most two
+-- the numbers that belong to a column: a log has at most 2 ^ 32 nodes, and each takes at most two
 abbrev pub share : ℕ
 share = 2 ^ 33
 
@@ -66,13 +66,13 @@ new_view column gap fork seen room owns around phase = record {
 abbrev pub root_view : View
 root_view = new_view 0 0 0 0 share 1 [] Going
 
--- a word was read or written
+-- after a word was read or written
 abbrev pub noted_view : (word value : ℕ) → View → View
 noted_view word value v = record v { notes = record { word = word; value = value } ∷ v.notes }
 
 -- ## Turns
 
--- how many of these turns are that of slot n
+-- the number of turns of slot `n` in the list
 abbrev pub turns_of : ℕ → List Turn → ℕ
 turns_of n [] = 0
 turns_of n (t ∷ ts) = (if t.slot == n then 1 else 0) + turns_of n ts
@@ -90,7 +90,7 @@ abbrev pub newest_used : List Turn → ℕ
 newest_used [] = 0
 newest_used (t ∷ ts) = t.used
 
--- without the newest
+-- the turns without the newest
 abbrev pub older : List Turn → List Turn
 older [] = []
 older (t ∷ ts) = ts
@@ -100,13 +100,14 @@ abbrev pub newest_tier : List Turn → Option Traces
 newest_tier [] = None
 newest_tier (t ∷ ts) = t.tier
 
--- a tier with so many columns more, those of a fork that the strand of this column makes, the word of whose gap is this
+-- The tier with the columns of one fork more, unless `more` is 0. The fork is made by the strand with this column, whose gap word
+-- is `word`.
 abbrev pub tier_with : (more word column : ℕ) → Option Traces → Option Traces
 tier_with zero w c y = y
 tier_with (suc k) w c None = None
 tier_with (suc k) w c (Some x) = Some (record { columns = columns.forked w c x.columns })
 
--- for what the newest turn was taken, and the cell that lay in its slot, with the access that was drawn since
+-- the aim for which the newest turn was taken; below, the cell that lay in its slot, with the access that was drawn since
 abbrev pub newest_aim : List Turn → Aim
 newest_aim [] = aims.Look
 newest_aim (t ∷ ts) = t.aim
@@ -115,7 +116,7 @@ abbrev pub newest_cell : List Turn → Option CellParts
 newest_cell [] = None
 newest_cell (t ∷ ts) = t.cell
 
--- a cell with one entry more, of an access that left this value
+-- the cell with one more entry, of an access that left this value
 abbrev pub cell_with : Mark → (wrote : Bool) → ℤ → Option CellParts → Option CellParts
 cell_with m w x None = None
 cell_with m w x (Some c) = Some (record c { entries = c.entries ++ record { mark = m; wrote = w; value = x; old = entries_value c } ∷ [] })
@@ -124,26 +125,26 @@ abbrev pub with_access : Mark → (wrote : Bool) → ℤ → List Turn → List 
 with_access m w x [] = []
 with_access m w x (t ∷ ts) = record t { cell = cell_with m w x t.cell } ∷ ts
 
--- so many columns more are in use, for such a fork
+-- `more` more columns are in use, for a fork as in `tier_with`
 abbrev pub with_more : (more word column : ℕ) → List Turn → List Turn
 with_more k w c [] = []
 with_more k w c (t ∷ ts) = record t { tier = tier_with k w c t.tier; used = t.used + k } ∷ ts
 
 -- ## What lies in the slots
 
--- a cell in which no stamp is greater
+-- a cell with no stamp above `most`
 abbrev pub IsLowCell : (most : ℕ) → Slot → Type 0
 IsLowCell most (slot.Cell x) = All (λ (e : Entry). e.mark.stamp ≤ most) x.entries
 IsLowCell most (slot.Tier x) = ⊥
 IsLowCell most slot.Empty = ⊥
 
--- a tier that may have so many columns, of which so many are in use
+-- a tier with room for `limit` columns, of which `used` are in use
 abbrev pub IsTierOf : (limit used : ℕ) → Slot → Type 0
 IsTierOf limit used (slot.Tier x) = (x.columns.room ≡ limit) × (columns.used x.columns ≡ used)
 IsTierOf limit used (slot.Cell x) = ⊥
 IsTierOf limit used slot.Empty = ⊥
 
--- What lies in slot n: below the number of cells a cell, behind them the tier
+-- what lies in slot `n`: a cell if `n` is below the number of cells, and the tier if it equals that number
 pub record IsWhole (key : Key) (most used n : ℕ) (y : Slot) : Type 0 where
   pub cell : n < cells_of key → IsLowCell most y
   pub tier : n ≡ cells_of key → IsTierOf key.columns used y
@@ -153,7 +154,7 @@ pub record IsWhole (key : Key) (most used n : ℕ) (y : Slot) : Type 0 where
 abbrev pub view_of : StrandToken → View
 view_of t = t.seat.me.0
 
--- the slots that it has in its hands, each with what lies there, newest first
+-- the slots that the token has taken out, each with what lies there, newest first
 abbrev pub held_by : StrandToken → List (ℕ × Slot)
 held_by t = t.seat.me.1
 
@@ -163,7 +164,7 @@ IsTokenOf s t = t.seat.table_id ≡ s.table.shared.table_id
 abbrev pub key_of : Shared → Key
 key_of s = s.table.shared.key
 
--- the newest turn is that of slot n, in which y lies
+-- the newest turn is that of slot `n`, in which `y` lies
 pub record Holding (t : StrandToken) (n : ℕ) (y : Slot) : Type 0 where
   pub turn : newest_slot (view_of t).turns ≡ Some n
   pub slot : held_by t ≡ (n, y) ∷ rest (held_by t)
@@ -179,7 +180,7 @@ cell_in slot.Empty = None
 
 -- ## Draws
 
--- so many columns a fork takes: two, or none where both strands share one
+-- the number of columns that a fork takes: two, or none if both strands share one
 abbrev pub columns_for : (left right : ℕ) → ℕ
 columns_for left right = if left == right then 0 else 2
 
@@ -211,7 +212,7 @@ word_after (draw.Out v) own = own
 word_after draw.Begin own = own
 word_after (draw.End aborted) own = own
 
--- the right strand of a fork with two columns has a seat of its own to come
+-- the right strand of a fork with two columns is to get a seat of its own
 abbrev pub coming_for : (left right gap : ℕ) → Option Coming → Option Coming
 coming_for left right gap old = if left == right then old else Some (record { fork = left; column = right; gap = gap })
 
@@ -229,7 +230,7 @@ turns_after (draw.Out x) n v = v.turns
 turns_after draw.Begin n v = v.turns
 turns_after (draw.End aborted) n v = v.turns
 
--- a strand waits for a fork with two columns
+-- the strand that forks waits, if the fork has two columns
 abbrev pub outer_for : (left right : ℕ) → View → List Whereabouts
 outer_for left right v = if left == right then v.outer else record { column = v.column; gap = v.gap; word = v.word } ∷ v.outer
 
@@ -240,7 +241,8 @@ outer_after (draw.Out x) v = v.outer
 outer_after draw.Begin v = v.outer
 outer_after (draw.End aborted) v = v.outer
 
--- a begin's stamp is around what comes next, and an end takes the innermost away; the blocks around a fork are around its strands
+-- A begin puts its stamp around what comes next, and an end removes the innermost. The blocks around a fork are around its strands
+-- too.
 abbrev pub arounds_after : Draw → (number : ℕ) → List (List ℕ) → List (List ℕ)
 arounds_after (draw.Fork left right gap) n ws = innermost ws ∷ ws
 arounds_after (draw.Access c wrote x) n ws = ws
@@ -248,7 +250,7 @@ arounds_after (draw.Out x) n ws = ws
 arounds_after draw.Begin n ws = (n ∷ innermost ws) ∷ outwards ws
 arounds_after (draw.End aborted) n ws = drop 1 (innermost ws) ∷ outwards ws
 
--- one of two columns of a fork is that of a log to come
+-- a fork with two columns owns one more, that of a log to come
 abbrev pub owns_after : Draw → ℕ → ℕ
 owns_after (draw.Fork left right gap) own = own + (if left == right then 0 else 1)
 owns_after (draw.Access c wrote v) own = own
@@ -256,7 +258,7 @@ owns_after (draw.Out v) own = own
 owns_after draw.Begin own = own
 owns_after (draw.End aborted) own = own
 
--- after a draw: the number is the greatest seen; a fork takes its columns, with their numbers, and the left strand goes on
+-- After a draw: its number is the greatest seen. A fork takes its columns with their numbers, and the left strand goes on.
 abbrev pub drew_view : Draw → (behind : ℕ) → (second : Bool) → (number : ℕ) → View → View
 drew_view d behind second n v = record v {
   seen = n;
@@ -271,8 +273,9 @@ drew_view d behind second n v = record v {
   turns = turns_after d n v;
 }
 
--- Two columns of a fork are the next ones, and both its strands use the gap of the strand that forks, or where its word shows a block that of
--- the left one. An inline fork, for which there are not two, has its strand's own column and gap. The fork has the tier's turn, which it took.
+-- The two columns of a fork are the next ones. Both strands use the gap of the strand that forks, or that of the left one if its
+-- gap word shows a block. An inline fork, made if there is no room for two columns, keeps the strand's column and gap. The fork
+-- needs the tier's turn, taken for a fork.
 pub record CanFork (key : Key) (v : View) (left right gap : ℕ) : Type 0 where
   pub turn : newest_slot v.turns ≡ Some (cells_of key)
   pub aim : newest_aim v.turns ≡ aims.Fork
@@ -283,7 +286,7 @@ pub record CanFork (key : Key) (v : View) (left right gap : ℕ) : Type 0 where
   pub full : left ≡ right → key.columns < newest_used v.turns + 2
   pub gap_used : gap ≡ (if left == right then v.gap else if v.word == 0 then v.gap else left)
 
--- An access has the turn of its cell, which it took for it, and a read the value that the cell has
+-- An access needs the turn of its cell, taken for an access. A read needs the value that the cell has.
 pub record CanAccess (key : Key) (v : View) (c : ℕ) (wrote : Bool) (x : ℤ) : Type 0 where
   pub there : c < cells_of key
   pub turn : newest_slot v.turns ≡ Some c
@@ -307,7 +310,7 @@ tier_of slot.Empty = None
 abbrev pub turn_for : (n : ℕ) → Aim → Slot → (used : ℕ) → Turn
 turn_for n aim y used = record { slot = n; aim = aim; cell = cell_in y; tier = tier_of y; used = used }
 
--- after a take: the clock was here, and this lay in the slot
+-- after a take: the clock showed `clock`, and `y` lay in the slot
 abbrev pub took_view : (n : ℕ) → Aim → Slot → (used clock : ℕ) → View → View
 took_view n aim y used clock v = record v { seen = clock; turns = turn_for n aim y used ∷ v.turns }
 
@@ -320,7 +323,7 @@ gap_home (home.Merge fork used) column gap = gap
 gap_home (home.Inline used) column gap = gap
 gap_home (home.Early before used) column gap = gap
 
--- which is then split, and goes on; and so does a strand whose fork's traces were merged
+-- It is then split, and goes on. A strand goes on, too, once the traces of its fork were merged.
 abbrev pub split_home : Home → Bool → Bool
 split_home (home.Split fork used) b = true
 split_home home.Plain b = b
@@ -342,15 +345,15 @@ gave_view h v = record v { gap = gap_home h v.column v.gap; split = split_home h
 
 -- ## Gap words and halts
 
--- the word of its own gap was written
+-- after the word of its own gap was written
 abbrev pub marked_view : (word value : ℕ) → View → View
 marked_view w x v = noted_view w x (record v { word = x })
 
--- the stop word was set
+-- after the stop flag was set
 abbrev pub halted_view : (word : ℕ) → Halt → View → View
 halted_view w h v = noted_view w 1 (record v { halt = Some h })
 
--- the stop word was found
+-- after the stop flag was read
 abbrev pub told_view : (word value : ℕ) → View → View
 told_view w n v = noted_view w n (record v { told = v.told || nat_lt 0 n })
 
@@ -361,11 +364,11 @@ abbrev pub right_view : Option Coming → (around : List ℕ) → View → View
 right_view None around v = new_view v.column v.gap 0 v.seen share 1 around Waiting
 right_view (Some c) around v = new_view c.column c.gap c.fork v.seen share 1 around Waiting
 
--- it tells a right strand that its left one has ended, and is for nothing else
+-- the view of a note: it tells a right strand that its left one has ended, and does nothing else
 abbrev pub note_view : View → View
 note_view v = record (new_view v.column v.gap 0 0 0 0 [] Over) { here = false }
 
--- the left strand goes on, or where its right one is taken back it is over
+-- the left strand goes on; or, if its right one is taken back, it is over
 abbrev pub parted_view : (take_back : Bool) → (behind : ℕ) → (second : Bool) → View → View
 parted_view true behind second v = record v { phase = Over }
 parted_view false behind second v = record v { coming = None; arounds = caught_up behind second v.arounds; room = v.room - share; owns = v.owns - 1 }
@@ -374,7 +377,7 @@ abbrev pub new_seat_view : (take_back : Bool) → (behind : ℕ) → (second : B
 new_seat_view true behind second v = note_view v
 new_seat_view false behind second v = right_view v.coming (innermost (caught_up behind second v.arounds)) v
 
--- where the innermost strand stands that waits
+-- where the innermost waiting strand stands
 abbrev pub stood_at : View → List Whereabouts → Whereabouts
 stood_at v [] = record { column = v.column; gap = v.gap; word = v.word }
 stood_at v (o ∷ os) = o
@@ -387,7 +390,7 @@ abbrev pub kept_halt : Option Halt → Option Halt → Option Halt
 kept_halt None h = h
 kept_halt (Some x) h = Some x
 
--- the left strand with the right one: the strand that forked, which owes a merge where that fork was split
+-- The left strand joined with the right one: the strand that forked. It owes a merge if that fork was split.
 abbrev pub both_view : (behind : ℕ) → (second : Bool) → View → View → View
 both_view behind second v w = record v {
   column = (stood_at v v.outer).column;
@@ -403,7 +406,7 @@ both_view behind second v w = record v {
   owns = v.owns + w.owns;
 }
 
--- a seat with another; one that is not here is but a note, by which a right strand goes on
+-- A seat joined with another. If the other is not here, it is only a note, by which a right strand goes on.
 abbrev pub joined_view : (behind : ℕ) → (second : Bool) → View → View → View
 joined_view behind second v w = if w.here then both_view behind second v w else record v { phase = Going }
 
@@ -413,7 +416,7 @@ spent_view = record (new_view 0 0 0 0 0 0 [] Over) { here = false }
 
 -- ## At the start
 
--- a cell that nobody has reached
+-- a cell that nobody has accessed
 abbrev pub fresh_slot : ℤ → Slot
 fresh_slot v = slot.Cell (record { first = v; entries = []; cleaned = 0; room = 0 })
 
@@ -422,7 +425,7 @@ fresh_slot v = slot.Cell (record { first = v; entries = []; cleaned = 0; room = 
 abbrev pub drew : Draw → (behind : ℕ) → (second : Bool) → Step Slot → Me Slot View → ℕ → Me Slot View → Type 0
 drew d behind second st me n me' = (n + 1 < 2 ^ 64) × (me.0.seen ≤ n) × (me' ≡ (drew_view d behind second (n + 1) me.0, me.1))
 
--- the slot was at home where the turn was free; the seat's column and gap are among those in use
+-- The slot was at home, since its turn was free. The seat's column and gap are among those in use.
 pub record TakesIt (key : Key) (aim : Aim) (n : ℕ) (me me' : Me Slot View) : Type 0 where
   pub lay : Slot
   pub used : ℕ
@@ -434,11 +437,11 @@ pub record TakesIt (key : Key) (aim : Aim) (n : ℕ) (me me' : Me Slot View) : T
   pub after : me' ≡ (took_view n aim lay used clock me.0, (n, lay) ∷ me.1)
   pub whole : IsWhole key clock used n lay
 
--- the word was found to be taken
+-- the word was found taken
 abbrev pub LeavesIt : (word : ℕ) → (me me' : Me Slot View) → Type 0
 LeavesIt word me me' = (value : ℕ) × (0 < value) × (me' ≡ (noted_view word value me.0, me.1))
 
--- the number found in the word of a turn is 0 where it was free
+-- the number found in the word of a turn is 0 if the turn was free
 abbrev pub took : Key → Aim → (n : ℕ) → Step Slot → Me Slot View → ℕ → Me Slot View → Type 0
 took key aim n st me zero me' = TakesIt key aim n me me'
 took key aim n st me (suc k) me' = LeavesIt st.word me me'
@@ -449,17 +452,17 @@ gave h st me n me' = me' ≡ (gave_view h me.0, rest me.1)
 abbrev pub marked : Step Slot → Me Slot View → ℕ → Me Slot View → Type 0
 marked st me n me' = me' ≡ (marked_view st.word n me.0, me.1)
 
--- the stop word is set to 1
+-- the stop flag is set to 1
 abbrev pub set_stop : Halt → Step Slot → Me Slot View → ℕ → Me Slot View → Type 0
 set_stop h st me n me' = (n ≡ 1) × (me' ≡ (halted_view st.word h me.0, me.1))
 
 abbrev pub told : Step Slot → Me Slot View → ℕ → Me Slot View → Type 0
 told st me n me' = me' ≡ (told_view st.word n me.0, me.1)
 
--- the rule says nothing yet of what a gap word is
+-- the rule says nothing yet of what a gap word means
 abbrev pub found : Step Slot → Me Slot View → ℕ → Me Slot View → Type 0
 found st me n me' = me' ≡ (noted_view st.word n me.0, me.1)
 
--- it owns few columns
+-- it owns fewer than 2 ^ 31 columns
 abbrev pub weighed : Step Slot → Me Slot View → ℕ → Me Slot View → Type 0
 weighed st me n me' = (me.0.owns < 2 ^ 31) × (me' ≡ me)
