@@ -72,14 +72,14 @@ fn give_as<W: Giving>(table: &Words, seat: &mut TokenSeat, slot: u32, home: &Hom
 }
 
 impl Shared {
-    /// The number of cells, by which the tier's slot is named.
+    /// Returns the number of cells, which is also the number of the tier's slot.
     pub fn cells(&self) -> u32
         ensures { result ≡ cells_of (key_of self.now) }
     {
         self.cells
     }
 
-    /// Draws a number, and adds to the token's log what it was drawn for.
+    /// Draws a number for `what`, and adds `what` to the token's log with that number.
     pub fn draw(&self, token: &mut StrandToken, what: Draw) -> u64
         requires table { IsTokenOf self.now token.old }
         requires number { 0 < (view_of token.old).room }
@@ -109,8 +109,8 @@ impl Shared {
         number
     }
 
-    /// Tries to take the turn of a slot, and with it what lies there. True where it got that; else nothing changed, and the turn was found to be
-    /// taken.
+    /// Tries to acquire the lock (the turn) of `slot`, and with it what lies there. Returns true if it did. Otherwise it found the
+    /// lock held, and nothing else changed.
     pub fn take(&self, token: &mut StrandToken, slot: u32, aim: Aim) -> bool
         requires table { IsTokenOf self.now token.old }
         requires there { slot ≤ cells_of (key_of self.now) }
@@ -125,7 +125,7 @@ impl Shared {
         take_as::<Brand>(&self.table.shared, seat, slot, aim, track.place)
     }
 
-    /// Puts another cell, or none, where the cell lies whose turn is held, and answers what lay there.
+    /// Replaces the cell in a slot whose lock is held by `new`, which may be none. Returns the cell that lay there.
     pub fn swap_cell(&self, token: &mut StrandToken, cell: u32, new: Option<Cell>) -> Option<Cell>
         requires table { IsTokenOf self.now token.old }
         requires held { (y : _) × Holding token.old cell y }
@@ -147,7 +147,7 @@ impl Shared {
         }
     }
 
-    /// Takes the tier out of its slot, whose turn is held.
+    /// Takes the tier out of its slot, whose lock is held.
     pub fn tier_out(&self, token: &mut StrandToken) -> Tier
         requires table { IsTokenOf self.now token.old }
         requires held { (x : _) × Holding token.old (cells_of (key_of self.now)) (slot_of.Tier x) }
@@ -169,7 +169,7 @@ impl Shared {
         }
     }
 
-    /// Puts the tier into its slot, whose turn is held.
+    /// Puts the tier into its slot, whose lock is held.
     pub fn tier_in(&self, token: &mut StrandToken, tier: Tier)
         requires table { IsTokenOf self.now token.old }
         requires held { (y : _) × Holding token.old (cells_of (key_of self.now)) y }
@@ -185,7 +185,8 @@ impl Shared {
             .exchange(seat, self.cells as usize, Slot::Tier(tier));
     }
 
-    /// Gives the newest turn back, with what lies in its slot: of the tier just what is told was done to it.
+    /// Releases the lock of `slot`, the newest one, and leaves there what lies in the slot. `home` tells exactly what was done to
+    /// the tier.
     pub fn give(&self, token: &mut StrandToken, slot: u32, home: Home)
         requires table { IsTokenOf self.now token.old }
         requires there { slot ≤ cells_of (key_of self.now) }

@@ -1,6 +1,7 @@
-//! What a table leaves that is closed with the root's token: the tree of the token's logs, their conflicts and halt, and the cells' entries.
-//! Of a sound run no test in here fails; where one does, the answer is that of want of memory. The rule cannot say yet that no two logs have
-//! one column, that the fork from which a log hangs is there, that nodes have parents before them, and that each cell lies in its slot.
+//! Closes a table with the root's token: returns the tree of the token's logs, their conflicts and halt, and the cells' entries. No
+//! test in here fails on a sound run. If one does fail, the call returns `OutOfMemory`, as if memory had run out. The tests are
+//! needed because the rule cannot say yet that no two logs have the same column, that the fork from which a log hangs exists, that
+//! nodes have parents before them, and that each cell lies in its slot.
 ghost use Rattle.std.specs.Prelude.{◌≡◌, IfOk, IfErr};
 ghost use Rattle.cw_log.specs.Tokens.{logs};
 ghost use Rattle.cw_course.specs.Closings.{conflicts_of, halt_in, tree_of, AreApart, IsPutTogether};
@@ -26,7 +27,7 @@ use halts::halt_in;
 use std::alloc::Global;
 use trees::tree_of;
 
-/// What the logs of a token are put together to.
+/// What the logs of a token become when they are put together.
 #[derive(Drop)]
 struct Together {
     tree: Tree,
@@ -59,8 +60,8 @@ fn put_together(alloc: Global, track: &Track, stop: Option<Stop>) -> Result<Toge
 }
 
 impl Shared {
-    /// What the table leaves: the tree of the logs in depth-first order, their conflicts and halt with its numbers, and each cell's entries.
-    /// Without the memory for it, or where a test fails, table and token are handed back.
+    /// Closes the table: returns the tree of the logs in depth-first order, their conflicts and halt with the tree's numbers, and
+    /// each cell's entries. If memory runs out or a test fails, it gives back table and token.
     pub fn close(self, token: StrandToken) -> Result<Closed, (Shared, StrandToken, OutOfMemory)>
         requires { IsTokenOf self token }
         ensures together { IfOk result (λ c. IsPutTogether (logs (token_of token)) (token_of token).stop c) }
@@ -92,7 +93,7 @@ impl Shared {
     }
 }
 
-/// The same in depth-first order.
+/// Brings what was put together into depth-first order.
 fn in_order(together: Together, journals: Seq<Seq<Entry>>) -> Result<Closed, OutOfMemory>
     ensures tree { IfOk result (λ c. c.tree ≡ in_order together.tree) }
     ensures numbered { IfOk result (λ c. IsNumbered together.tree) }
@@ -105,7 +106,7 @@ fn in_order(together: Together, journals: Seq<Seq<Entry>>) -> Result<Closed, Out
         conflicts,
         halt,
     } = together;
-    // a hint to the prover, without effect: each parent has a smaller number
+    // A hint to the prover, without effect: each parent has a smaller number.
     let _ = tree.nodes();
     let closed = Closed {
         tree,

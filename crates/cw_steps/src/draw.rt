@@ -1,8 +1,8 @@
 //! What steps are for.
 use cw_tree::Conflict;
 
-/// What a number is drawn for. Of an access: the cell's value after it. Of a fork: the columns of both strands, and the gap that both then use;
-/// for an inline fork these are the forking strand's own.
+/// What a number is drawn for. An access has the cell's value after it. A fork has the columns of both strands, and the gap that
+/// both then use; for an inline fork these are the forking strand's own.
 #[derive(Clone, Copy, Debug)]
 pub enum Draw {
     Access { cell: u32, wrote: bool, value: i64 },
@@ -12,7 +12,7 @@ pub enum Draw {
     End { aborted: bool },
 }
 
-/// What a turn is taken for.
+/// Why the lock of a slot is acquired.
 #[derive(Clone, Copy, Debug)]
 pub enum Aim {
     Access,
@@ -23,7 +23,7 @@ pub enum Aim {
     Merge,
 }
 
-/// What was done while a turn was held. `used` is the number of columns in use.
+/// What was done while a lock was held. `used` is the number of columns in use.
 #[derive(Drop)]
 pub enum Home {
     Plain,

@@ -1,4 +1,4 @@
-//! The rule of the table, and what each step tells. What a step is for is picked by its call, as ghost members.
+//! The rule of the table, and what each step tells. Each call picks as ghost members what its step is for.
 use crate::view::{Key, Slot, View};
 use atomic_table::{Join, Play, Seat, Split, Table, TableRule};
 use std::alloc::Global;
@@ -21,7 +21,8 @@ pub(crate) type Words = atomic_table::Shared<Slot, View, Key, Law>;
 
 pub(crate) type TokenSeat = Seat<Slot, View>;
 
-/// For what a number is drawn, at which place of the token's log, and how far the token went since its last draw. Each call picks it.
+/// What a number is drawn for, at which place of the token's log, and how far the token went since its last draw. Each call picks
+/// it.
 pub(crate) trait Drawing {
     ghost use Rattle.std.specs.Prelude.{ℕ, Bool};
     ghost use Rattle.cw_steps.specs.declared.draw.Draw.{Draw};
@@ -58,7 +59,7 @@ impl<W: Drawing> Play<Slot, View> for Draws<W> {
     ghost then = { drew W.what W.behind W.second };
 }
 
-/// Which turn is taken, for what, and at which place. Each call picks it.
+/// Which slot's lock is acquired, why, and at which place. Each call picks it.
 pub(crate) trait Taking {
     ghost use Rattle.std.specs.Prelude.{ℕ};
     ghost use Rattle.cw_steps.specs.declared.draw.Aim.{Aim};
@@ -96,7 +97,7 @@ impl<W: Taking> Play<Slot, View> for Takes<W> {
     ghost then = { took W.key W.aim W.slot };
 }
 
-/// What was done while a turn was held, and at which place. Each call picks it.
+/// What was done while a lock was held, and at which place. Each call picks it.
 pub(crate) trait Giving {
     ghost use Rattle.std.specs.Prelude.{ℕ};
     ghost use Rattle.cw_steps.specs.declared.draw.Home.{Home};
@@ -149,7 +150,7 @@ impl<W: Marking> Play<Slot, View> for Marks<W> {
     ghost then = { marked };
 }
 
-/// With which halt the stop word is set, and at which place. Each call picks it.
+/// With which halt the stop flag is set, and at which place. Each call picks it.
 pub(crate) trait Halting {
     ghost use Rattle.std.specs.Prelude.{ℕ};
     ghost use Rattle.cw_tree.specs.declared.closed.Halt.{Halt};
@@ -177,7 +178,7 @@ impl<W: Halting> Play<Slot, View> for Halts<W> {
     ghost then = { set_stop W.halt };
 }
 
-/// A look at the stop word.
+/// A look at the stop flag.
 pub struct Tells;
 
 impl Play<Slot, View> for Tells {
@@ -195,7 +196,7 @@ impl Play<Slot, View> for Finds {
     ghost then = { found };
 }
 
-/// How far a token went since its last draw, and whether it is split to take a right strand back. Each call picks it.
+/// How far a token went since its last draw, and whether its seat is split to take a right strand back. Each call picks it.
 pub(crate) trait Parting {
     ghost use Rattle.std.specs.Prelude.{ℕ, Bool};
 

@@ -1,10 +1,10 @@
-//! The steps of a board on one table that threads share: its words (clock, turns, stop word, gap words), its slots (cells, and the tier), a
-//! strand's token, and one call for each kind of step.
-//! Stands on `atomic_table`, `cw_base`, `cw_code`, `cw_order`, `cw_tree`, `cw_trace`, `cw_stack`, `cw_log`, and the definitions of `cw_course`.
-//! Contracts cite `specs/Rule.antt` (what is true of the table between any two steps), `specs/Views.antt` (what a token knows, and what each
-//! step makes of that), `specs/Homes.antt` (what comes home with a turn), `specs/Tracks.antt` (a token's log, and where its strand stands in
-//! it), `specs/Stands.antt` (what a token stands for on a board, and what each step makes of that) and `specs/Leaving.antt` (what a table
-//! leaves that is closed; with `Closings` of `cw_course`, what logs are put together to).
+//! The steps of a board, on one table that threads share: its words (clock, turns, stop flag, gap words), its slots (cells, and the
+//! tier), a strand's token, and one call for each kind of step. `cw_board` is built on it; use that, unless you build another
+//! board.
+//! Contracts cite `specs/Rule.antt` (what is true of the table between any two steps), `specs/Views.antt` (what a token knows, and
+//! what each step makes of that), `specs/Homes.antt` (what comes home when a turn is given back), `specs/Tracks.antt` (a token's
+//! log, and where its strand stands in it), `specs/Stands.antt` (what a token stands for on a board, and what each step makes of
+//! that) and `specs/Leaving.antt` (what a closed table leaves; `Closings` of `cw_course` says what logs are put together to).
 #![tactic(auto)]
 
 mod calls;

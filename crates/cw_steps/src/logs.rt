@@ -8,14 +8,15 @@ use cw_log::Logs;
 use std::mem;
 
 impl StrandToken {
-    /// The column of its own log.
+    /// Returns the column of the token's own log.
     pub fn log_column(&self) -> u32
         ensures { result ≡ (token_of self.now).own.column }
     {
         self.track.first
     }
 
-    /// Lends the logs of the tokens that were joined to it, so that they can be walked while it makes steps. Takes no memory.
+    /// Lends the logs of the tokens that were joined to this one, so that a caller can walk them while the token makes steps. Takes
+    /// no memory.
     pub fn lend_joined(&mut self) -> Logs
         ensures logs { result ≡ (token_of self.old).joined }
         ensures token { token_of self.new ≡ record (token_of self.old) { joined = [] } }
@@ -27,7 +28,7 @@ impl StrandToken {
         mem::replace(&mut track.joined, none)
     }
 
-    /// Takes back the logs that it lent.
+    /// Takes back the logs that `lend_joined` lent.
     pub fn keep_joined(&mut self, logs: Logs)
         ensures token { token_of self.new ≡ record (token_of self.old) { joined = logs } }
         ensures seat { self.new.seat ≡ self.old.seat }

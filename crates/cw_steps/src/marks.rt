@@ -1,4 +1,4 @@
-//! Gap words, and the stop word.
+//! Gap words, and the stop flag.
 ghost use Rattle.std.specs.Prelude.{◌≡◌, ℕ, ◌+◌, ◌<◌, nat_lt, None};
 ghost use Rattle.cw_tree.specs.Nodes.{stamp_of};
 ghost use Rattle.cw_log.specs.Tokens as tokens;
@@ -49,7 +49,7 @@ fn halt_as<W: Halting>(table: &Words, seat: &mut TokenSeat, cells: u32, halt: Ha
 }
 
 impl Shared {
-    /// Writes the begin stamp of the block at the token's place into the word of the gap that its strand uses.
+    /// Writes the begin stamp of the block at the token's place into the word of `gap`, which the token's strand uses.
     pub fn set_gap(&self, token: &mut StrandToken, gap: u32)
         requires table { IsTokenOf self.now token.old }
         requires gap { (gap ≡ token.old.track.gap) × (gap < (key_of self.now).columns) }
@@ -73,7 +73,7 @@ impl Shared {
         track.word = stamp;
     }
 
-    /// Writes 0 into the word of the gap that the token's strand uses.
+    /// Writes 0 into the word of `gap`, which the token's strand uses.
     pub fn clear_gap(&self, token: &mut StrandToken, gap: u32)
         requires table { IsTokenOf self.now token.old }
         requires gap { (gap ≡ token.old.track.gap) × (gap < (key_of self.now).columns) }
@@ -89,7 +89,7 @@ impl Shared {
         track.word = 0;
     }
 
-    /// Sets the stop word, and notes the halt.
+    /// Sets the stop flag, and keeps `halt` in the token.
     pub fn stop(&self, token: &mut StrandToken, halt: Halt)
         requires table { IsTokenOf self.now token.old }
         ensures table { IsTokenOf self.now token.new }
@@ -112,7 +112,7 @@ impl Shared {
         });
     }
 
-    /// Whether the stop word is set, which it is only where some token has halted.
+    /// Whether the stop flag is set.
     pub fn stopped(&self, token: &mut StrandToken) -> bool
         requires table { IsTokenOf self.now token.old }
         ensures table { IsTokenOf self.now token.new }
@@ -127,7 +127,8 @@ impl Shared {
         found > 0
     }
 
-    /// Reads a word, and counts that. The rule says nothing of gap words yet, so of the value nothing is told but that it was found there.
+    /// Reads the word `at`, and counts the read. Nothing is known of its value except that it was found there: the rule does not
+    /// speak of gap words yet.
     pub fn load<K: Ledger>(
         &self,
         token: &mut StrandToken,

@@ -1,4 +1,4 @@
-//! Where the words of the table stand: the clock, a turn for each slot, the stop word, and a gap word for each column.
+//! The words of the table, by position: the clock, a turn for each slot, the stop flag, and a gap word for each column.
 ghost use Rattle.std.specs.Prelude.{◌≡◌, suc, ◌+◌};
 ghost use Rattle.cw_steps.specs.Places as places;
 

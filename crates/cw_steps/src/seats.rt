@@ -1,4 +1,4 @@
-//! Seats that are split off, and seats that are joined.
+//! Splits seats off, and joins them.
 ghost use Rattle.std.specs.Prelude.{◌≡◌, ◌+◌, ◌*◌, ◌<◌, ◌≤◌, ◌^◌, [], true, false, Some, None, length};
 ghost use Rattle.cw_log.specs.declared.token.Phase.TheVariants.{Going, Over};
 ghost use Rattle.cw_log.specs.Tokens as tokens;
@@ -62,7 +62,7 @@ fn kept(own: Option<Stop>, other: Option<Stop>) -> Option<Stop>
 }
 
 impl Shared {
-    /// A look at the clock, by which it is known that a token's list has few logs.
+    /// Looks at the clock, which shows that the token's list has few logs.
     pub fn weigh(&self, token: &mut StrandToken)
         requires { IsTokenOf self.now token.old }
         ensures table { IsTokenOf self.now token.new }
@@ -165,8 +165,9 @@ impl Shared {
         join_as::<Brand>(&self.table.shared, seat, other, track.behind, track.second);
     }
 
-    /// After a fork: the answer is the token of its right strand, which waits, and the token goes on as the left strand's. To take a right
-    /// strand back: the answer carries the note that its left strand has ended, and the token is over.
+    /// Splits a seat off. After a fork (`take_back` false) it returns the token of the right strand, which waits, and this token
+    /// goes on as the left strand's. To take a right strand back (`take_back` true) it returns a note that the left strand has
+    /// ended, and this token is over.
     pub fn split_seat(&self, token: &mut StrandToken, take_back: bool) -> StrandToken
         requires table { IsTokenOf self.now token.old }
         requires numbers { take_back ≡ false → (share ≤ (view_of token.old).room) × (0 < (view_of token.old).owns) }
@@ -190,8 +191,9 @@ impl Shared {
         }
     }
 
-    /// The token of a left strand takes in that of the right one, with its logs, and goes on where the strand stands that forked. Or that of a
-    /// right strand takes in the note that its left one has ended, and goes on.
+    /// Joins `ending` to this token. If `ending` is the token of a right strand, this token, of the left one, takes in its logs,
+    /// and goes on where the strand that forked stands. If `ending` is the note of a left strand, this token, of the right one,
+    /// goes on.
     pub fn join_seat(&self, token: &mut StrandToken, ending: StrandToken)
         requires table { IsTokenOf self.now token.old × IsTokenOf self.now ending }
         requires idle { (held_by ending ≡ []) × ((view_of ending).turns ≡ []) }

@@ -11,7 +11,7 @@ mod turning;
 use cw_log::{Above, LogRoom, Logs, Side};
 use cw_tree::{Conflict, Node};
 
-/// How the nodes end that go in one place: with so many blocks that were rolled back, or with so many refused accesses of a cell.
+/// The end of the nodes that go in one place: the number of rolled-back blocks there, or of refused accesses of `cell`.
 #[derive(Clone, Copy, Drop, Debug)]
 pub struct Tail {
     pub aborted: u32,
@@ -19,15 +19,15 @@ pub struct Tail {
     pub cell: u32,
 }
 
-/// They end with a node of another kind, or there is none.
+/// No rolled-back blocks and no refused accesses at the end.
 pub(crate) const PLAIN: Tail = Tail {
     aborted: 0,
     tried: 0,
     cell: 0,
 };
 
-/// Where a strand stands that forked: on which side of that fork the token goes on, its node in the log and the place behind its fork, its
-/// column, its gap and the word of that, and how many blocks are pending around that place.
+/// Where a strand that forked stands: the side of that fork on which the token goes on, the strand's node in the log, the place
+/// behind the fork, its column, its gap and that gap's word, and the number of pending blocks around that place.
 #[derive(Clone, Copy, Drop, Debug)]
 pub struct Stood {
     pub side: Side,
@@ -39,7 +39,8 @@ pub struct Stood {
     pub pending: usize,
 }
 
-/// The right strand of a fork, whose token is yet to be split off: the fork's number and its node in the log, and the strand's column and gap.
+/// The right strand of a fork whose token is yet to be split off: the fork's number and its node in the log, and the strand's
+/// column and gap.
 #[derive(Clone, Copy, Drop, Debug)]
 pub struct Ahead {
     pub fork: u32,
@@ -48,8 +49,8 @@ pub struct Ahead {
     pub gap: u32,
 }
 
-/// What a right strand begins with: the nodes of its log, room for the pending blocks around it, and room for its log in the list of the
-/// token that takes it in.
+/// What a right strand begins with: the nodes of its log, room for the pending blocks around it, and room for its log in the list
+/// of the token that takes it in.
 #[derive(Drop)]
 pub(crate) struct Spare {
     pub(crate) nodes: Vec<Node>,
@@ -59,9 +60,10 @@ pub(crate) struct Spare {
     ghost none: { pending.items ≡ [] },
 }
 
-/// What a token did, from its begin on, and where its strand stands: the strand, the node in which the next one goes, its column, the gap that
-/// it uses and the word of that; the strands that wait for forks of this log, innermost last; and the pending blocks around its place, those of
-/// other seats included, outermost first. Its log has a column, and hangs from a fork of the log with the column `from`.
+/// What a token did, from its begin on, and where its strand stands. `place` is the node beneath which the next one goes, and `gap`
+/// the gap that the strand uses, with its `word`. `outer` holds the strands that wait for forks of this log, innermost last.
+/// `pending` holds the pending blocks around its place, including those of other seats, outermost first. The log has the column
+/// `first`, and hangs from `fork` of the log with the column `from`.
 #[derive(Drop)]
 pub struct Track {
     pub(crate) first: u32,
@@ -79,10 +81,10 @@ pub struct Track {
     pub(crate) pending: Vec<Above>,
     pub(crate) tail: Tail,
     pub(crate) ahead: Option<Ahead>,
-    /// Behind so many inline forks it went since its last draw, and then into the right strand of one or not.
+    /// The number of inline forks behind which it went since its last draw; and whether it then went into the right strand of one.
     pub(crate) behind: u32,
     pub(crate) second: bool,
-    /// Room for its log in the list of the token that takes it in, where one may.
+    /// Room for its log in the list of the token that takes it in, if one may.
     pub(crate) room: Option<LogRoom>,
     pub(crate) spare: Option<Spare>,
     ghost few: { length nodes.items < 2 ^ 32 },

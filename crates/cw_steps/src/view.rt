@@ -6,7 +6,7 @@ use cw_stack::Cell;
 use cw_trace::Tier;
 use cw_tree::{Conflict, Halt, Node};
 
-/// What lies in a slot: a cell, or the tier; or nothing, while a token has that in its hands.
+/// What lies in a slot: a cell or the tier, or nothing while a token has taken that out.
 #[derive(Drop)]
 pub enum Slot {
     Cell(Cell),
@@ -14,8 +14,8 @@ pub enum Slot {
     Empty,
 }
 
-/// What the table is told when it is made: the cells' first values, how many columns the tier may have, and how many attempts a block or an
-/// access may have.
+/// The parameters of a table: the cells' first values, the most columns that the tier may have, and the most attempts of a block or
+/// an access.
 #[derive(Drop)]
 pub struct Key {
     pub first: Seq<i64>,
@@ -23,15 +23,15 @@ pub struct Key {
     pub aborts: u32,
 }
 
-/// A node of a log, with its number and its parent's in the run's tree. No value of it is made.
+/// A node of a log, with its number and its parent's in the run's tree. Ghost state, never constructed at run time.
 pub struct Placed {
     pub node: Node,
     pub number: u64,
     pub under: u64,
 }
 
-/// The log of one strand: its column, where its fork stands, and its nodes and conflicts, whose parents and askers are places of this log.
-/// No value of it is made.
+/// The log of one strand: its column, the position of its fork, and its nodes and conflicts, whose parents and askers are numbers
+/// of this log. Ghost state, never constructed at run time.
 pub struct Logged {
     pub column: u64,
     pub from: u64,
@@ -40,28 +40,31 @@ pub struct Logged {
     pub conflicts: Seq<Conflict>,
 }
 
-/// A strand that waits for a fork whose right strand has a token of its own: its column, its gap and the word of that. No value of it is made.
+/// A strand that waits for a fork whose right strand has a token of its own: its column, its gap and that gap's word. Ghost state,
+/// never constructed at run time.
 pub struct Whereabouts {
     pub column: u64,
     pub gap: u64,
     pub word: u64,
 }
 
-/// The right strand of a fork, whose seat is yet to be split off: the fork's number, and the strand's column and gap. No value of it is made.
+/// The right strand of a fork whose seat is yet to be split off: the fork's number, and the strand's column and gap. Ghost state,
+/// never constructed at run time.
 pub struct Coming {
     pub fork: u64,
     pub column: u64,
     pub gap: u64,
 }
 
-/// A word of the table, and what the seat found in it, or left there. No value of it is made.
+/// A word of the table, and what the seat found in it or left there. Ghost state, never constructed at run time.
 pub struct Note {
     pub word: u64,
     pub value: u64,
 }
 
-/// A turn that a seat has: its slot, for what it was taken, what lay there, of a cell with the accesses and of the tier with the columns that were drawn since, and with how many
-/// columns in use the tier has to come home, if the turn is the tier's. No value of it is made.
+/// A lock that a seat holds: its slot, why it was acquired, and what lay there, with the accesses or columns drawn since. `used` is
+/// the number of columns in use with which the tier has to come home, if the lock is the tier's. Ghost state, never constructed at
+/// run time.
 pub struct Turn {
     pub slot: u64,
     pub aim: Aim,
@@ -70,7 +73,7 @@ pub struct Turn {
     pub used: u64,
 }
 
-/// What a query found that stood in the way of an access. No value of it is made.
+/// What a query found in the way of an access. Ghost state, never constructed at run time.
 pub struct Found {
     pub cell: u64,
     pub last: u64,
@@ -78,34 +81,34 @@ pub struct Found {
     pub chain: Seq<u64>,
 }
 
-/// What a seat knows. No value of it is made.
+/// Ghost state: what a seat knows. Never constructed at run time.
 pub struct View {
-    /// False once it was joined away, and for one that only carries a note.
+    /// False once it was joined away, and for a seat that only carries a note.
     pub here: bool,
-    /// Its strand's column, the gap in use and the word of that gap.
+    /// Its strand's column, the gap in use and that gap's word.
     pub column: u64,
     pub gap: u64,
     pub word: u64,
-    /// The begin stamps of the pending blocks around its strand's place, innermost first; and then those around the places of the strands that
-    /// wait for forks of its log, of the innermost of these first. All as of its last draw.
+    /// The begin stamps of the pending blocks around its strand's place, innermost first; then those around the places of the
+    /// strands that wait for forks of its log, from the innermost of these on. All as of its last draw.
     pub arounds: Seq<Seq<u64>>,
     /// The strands that wait for forks of its log with two tokens, innermost first.
     pub outer: Seq<Whereabouts>,
     pub coming: Option<Coming>,
-    /// The number of the fork as whose right strand it began, or 0; whether that was split; and what it is for.
+    /// The number of the fork as whose right strand it began, or 0; whether that fork was split; and what the seat may do next.
     pub fork: u64,
     pub split: bool,
     pub phase: Phase,
-    /// A number that it has drawn and not shown yet: of a begin, or of an end.
+    /// A number that it has drawn and not shown yet, of a begin or of an end.
     pub drawn: u64,
     pub ends: bool,
-    /// It has undone something of the innermost of its blocks.
+    /// It has undone something of its innermost block.
     pub undoing: bool,
-    /// No number that it drew, and no stamp that it has to bring home, is greater.
+    /// The greatest number that it knows: it drew none above, and no stamp that it has to bring home is above.
     pub seen: u64,
-    /// The turns that it has, newest first.
+    /// The locks that it holds, newest first.
     pub turns: Seq<Turn>,
-    /// The newest access of the cell whose turn it has does not conflict with what it makes next.
+    /// The newest access of the cell whose lock it holds does not conflict with the access that it makes next.
     pub clear: bool,
     pub found: Option<Found>,
     pub halt: Option<Halt>,
@@ -113,9 +116,9 @@ pub struct View {
     pub told: bool,
     /// What it found in words that it read and left in words that it wrote, newest first.
     pub notes: Seq<Note>,
-    /// How many numbers it may still draw.
+    /// The numbers that it may still draw.
     pub room: u64,
-    /// So many of the columns in use are its own: at least one for each log of its list.
+    /// The columns in use that it owns: at least one for each log of its list.
     pub owns: u64,
     /// Its own log first, and those that were joined to it.
     pub logs: Seq<Logged>,

@@ -8,7 +8,8 @@ use crate::Track;
 use cw_base::OutOfMemory;
 use std::alloc::Global;
 
-/// For each column the number of the first node of the log that has it, where logs lie one after another; and how many nodes these have.
+/// For each column, the number in the tree of the first node of its log, if logs are laid one after another; and the number of
+/// their nodes.
 #[derive(Drop)]
 pub(crate) struct Bases {
     table: Vec<Option<u32>>,
@@ -23,7 +24,7 @@ impl Bases {
         Ok(Bases { table, count: 0 })
     }
 
-    /// One log more, with this column and so many nodes, if no other has that column.
+    /// Adds a log with this column and this many nodes, if no other log has that column.
     fn add(&mut self, column: u32, nodes: usize) -> Result<(), OutOfMemory>
         ensures { OnOk result ((ls : List Log) (l : Log) → l.column ≡ column → length l.nodes ≡ nodes → HasBases self.old ls → HasBases self.new (ls ++ l ∷ [])) }
     {
@@ -43,7 +44,7 @@ impl Bases {
         Ok(())
     }
 
-    /// Where the log with a column begins.
+    /// Returns the number in the tree of the first node of the log with `column`.
     pub(crate) fn base(&self, column: u32) -> Result<u32, OutOfMemory>
         ensures { IfOk result (λ n. (all : List Log) → HasBases self.now all → n ≡ base_of all column) }
     {
@@ -57,7 +58,7 @@ impl Bases {
         }
     }
 
-    /// The number of a node of the log with a column.
+    /// Returns the number in the tree of `node` of the log with `column`.
     pub(crate) fn number(&self, column: u32, node: u32) -> Result<u32, OutOfMemory>
         ensures { IfOk result (λ n. (all : List Log) → HasBases self.now all → n ≡ base_of all column + node) }
     {
@@ -69,7 +70,7 @@ impl Bases {
     }
 }
 
-/// So long a table has a place for the column of each log.
+/// Returns the length of a table that has a position for the column of each log.
 fn columns(track: &Track) -> usize {
     let mut most = track.first;
     for log in track.joined.iter() {

@@ -10,7 +10,7 @@ use cw_base::{OutOfMemory, Seq};
 use cw_tree::Conflict;
 use std::alloc::Global;
 
-/// The same conflict, of a log that begins at this number.
+/// Copies a conflict of the log that begins at number `base`.
 fn moved(alloc: Global, base: u32, conflict: &Conflict) -> Result<Conflict, OutOfMemory>
     ensures { IfOk result (λ c. c ≡ record conflict.now { asker = base + conflict.now.asker }) }
 {
@@ -29,7 +29,7 @@ fn moved(alloc: Global, base: u32, conflict: &Conflict) -> Result<Conflict, OutO
     })
 }
 
-/// The conflicts of a log that begins at this number.
+/// Adds copies of the conflicts of the log that begins at number `base`.
 fn add_moved(list: &mut Vec<Conflict>, base: u32, conflicts: &[Conflict]) -> Result<(), OutOfMemory>
     ensures { OnOk result (list.new.items ≡ list.old.items ++ map (λ (c : Conflict). record c { asker = base + c.asker }) conflicts.now) }
 {

@@ -12,7 +12,7 @@ use cw_base::OutOfMemory;
 use cw_log::Stop;
 use cw_tree::{Conflict, Halt, Tree};
 
-/// The block that was begun at a stamp.
+/// Returns the block that began at `stamp`.
 fn block_with_stamp(tree: &Tree, stamp: u64) -> Option<u32>
     ensures result { result ≡ block_with_stamp tree.now stamp }
     ensures there { IfSome result (λ b. b < length tree.now) }
@@ -25,7 +25,7 @@ fn block_with_stamp(tree: &Tree, stamp: u64) -> Option<u32>
     None
 }
 
-/// The strand in which a node stands.
+/// Returns the strand in which `node` stands.
 fn strand_of(tree: &Tree, node: u32) -> u32
     requires { node < length tree.now }
     ensures { result ≡ strand_of tree.now node }
@@ -37,7 +37,7 @@ fn strand_of(tree: &Tree, node: u32) -> u32
     at
 }
 
-/// The strand that began a victim, or where there is none another one.
+/// Returns the strand that began the victim's block, or `strand` if there is no victim or no such block.
 fn spender(tree: &Tree, victim: u64, strand: u32) -> u32
     ensures { result ≡ (if victim == 0 then strand else option_map_or (strand_of tree.now) (block_with_stamp tree.now victim) strand) }
 {
@@ -50,7 +50,7 @@ fn spender(tree: &Tree, victim: u64, strand: u32) -> u32
     }
 }
 
-/// The victim of the last of these conflicts, or 0.
+/// Returns the victim of the last of these conflicts, or 0.
 fn last_of(conflicts: &[Conflict]) -> u64
     ensures { result ≡ option_map_or (λ c. c.victim) (last_of_conflicts conflicts.now) 0 }
 {
@@ -60,7 +60,7 @@ fn last_of(conflicts: &[Conflict]) -> u64
     }
 }
 
-/// The victim of the last conflict of the log with a column, or 0.
+/// Returns the victim of the last conflict in the log with `column`, or 0.
 fn last_victim(track: &Track, column: u32) -> u64
     ensures { result ≡ option_map_or (λ c. c.victim) (last_conflict (logs_of_track track.now) column) 0 }
 {

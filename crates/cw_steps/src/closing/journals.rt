@@ -1,4 +1,4 @@
-//! The entries of the cells, each read under the turn of its slot.
+//! The entries of the cells, each cell read with its slot's lock held.
 ghost use Rattle.std.specs.Prelude.{◌≡◌, ◌<◌, IfOk};
 ghost use Rattle.std.specs.List.Sorted.{IsStrictlyIncreasing};
 ghost use Rattle.cw_tree.specs.AccessStacks.{stamps};
@@ -13,7 +13,7 @@ use cw_stack::Cell;
 use cw_tree::Entry;
 use std::alloc::Global;
 
-/// The entries of a cell once more.
+/// Returns a copy of the cell's entries.
 fn entries_of(alloc: Global, cell: &Cell) -> Result<Seq<Entry>, OutOfMemory>
     ensures entries { IfOk result (λ es. es ≡ cell.now.entries) }
     ensures rising { IfOk result (λ es. IsStrictlyIncreasing (stamps es)) }
@@ -24,7 +24,7 @@ fn entries_of(alloc: Global, cell: &Cell) -> Result<Seq<Entry>, OutOfMemory>
 }
 
 impl Shared {
-    /// The entries of the cell in a slot, if its turn is free.
+    /// Returns the entries of the cell in slot `cell`, if its lock is free.
     fn journal(
         &self,
         alloc: Global,
@@ -51,7 +51,7 @@ impl Shared {
         entries
     }
 
-    /// Those of each cell.
+    /// Returns the entries of each cell.
     pub(crate) fn journals(
         &self,
         alloc: Global,

@@ -1,4 +1,4 @@
-//! The tree of logs: one after another, each beneath the fork from which it hangs.
+//! The tree of logs: one log after another, each beneath the fork from which it hangs.
 ghost use Rattle.std.specs.Prelude.{◌≡◌, ◌+◌, ◌++◌, ◌∷◌, [], map, length, IfOk, OnOk, IsTrue};
 ghost use Rattle.cw_tree.specs.declared.node.Node.{Node};
 ghost use Rattle.cw_tree.specs.declared.node.Kind.TheVariants.{Strand};
@@ -42,14 +42,14 @@ fn is_plain(node: &Node) -> bool
     matches!(node.state, BlockState::Committed) && node.end == 0
 }
 
-/// Whether a node is that of a strand, as it was made.
+/// Whether a node is that of a strand, unchanged since it was made.
 fn is_root(node: &Node) -> bool
     ensures { IsTrue result → record node.now { parent = 0 } ≡ fresh_node 0 Strand 0 }
 {
     matches!(node.kind, Kind::Strand) && node.stamp == 0 && is_plain(node)
 }
 
-/// One node more, beneath another, if that is there.
+/// Adds a copy of `node` beneath `parent`, if that exists.
 fn hang(alloc: Global, tree: &mut Tree, parent: u32, node: &Node) -> Result<(), OutOfMemory>
     ensures { OnOk result (tree.new ≡ tree.old ++ record node.now { parent = parent } ∷ []) }
 {
@@ -67,7 +67,7 @@ fn hang(alloc: Global, tree: &mut Tree, parent: u32, node: &Node) -> Result<(), 
     }
 }
 
-/// The nodes of a log behind its first, which has this number.
+/// Adds the nodes of a log behind its first node, which has the number `base`.
 fn hang_all(alloc: Global, tree: &mut Tree, base: u32, nodes: &[Node]) -> Result<(), OutOfMemory>
     ensures { OnOk result (tree.new ≡ tree.old ++ map (λ (y : Node). record y { parent = base + y.parent }) nodes.now) }
 {
@@ -80,7 +80,7 @@ fn hang_all(alloc: Global, tree: &mut Tree, base: u32, nodes: &[Node]) -> Result
     Ok(())
 }
 
-/// The nodes of a log, the first of which is its strand, beneath a fork.
+/// Adds the nodes of a log, whose first node is its strand, beneath the fork `under`.
 fn hang_log(alloc: Global, tree: &mut Tree, under: u32, nodes: &[Node]) -> Result<(), OutOfMemory>
     ensures { OnOk result (tree.new ≡ tree.old ++ hung (length tree.old) under nodes.now) }
 {
@@ -92,7 +92,7 @@ fn hang_log(alloc: Global, tree: &mut Tree, under: u32, nodes: &[Node]) -> Resul
     hang_all(alloc, tree, base, rest)
 }
 
-/// The nodes of the root's log.
+/// Makes the tree of the root's log.
 fn root_log(alloc: Global, nodes: &[Node]) -> Result<Tree, OutOfMemory>
     ensures { IfOk result (λ t. t ≡ hung 0 0 nodes.now) }
 {

@@ -16,7 +16,7 @@ use cw_stack::Cell;
 use cw_trace::Tier;
 use std::alloc::Global;
 
-/// A tier has fewer columns than that.
+/// A tier has fewer columns than this.
 const MOST_COLUMNS: u32 = 1 << 31;
 
 fn fresh_slots(alloc: Global, init: &[i64]) -> Result<Vec<Slot>, OutOfMemory>
@@ -37,7 +37,7 @@ fn fresh_words(alloc: Global, cells: u32, columns: u32) -> Result<Vec<u64>, OutO
 }
 
 impl Shared {
-    /// A table with these cells and as many columns as the limits say, and the root's token.
+    /// Makes a table with the cells `init` and as many columns as `limits` say, and the root's token.
     pub fn new(
         alloc: Global,
         init: &[i64],

@@ -45,7 +45,7 @@ fn access_kind(cell: u32, wrote: bool, value: i64) -> Kind
 }
 
 impl Track {
-    /// Takes room for so many nodes, conflicts and forks.
+    /// Reserves memory for `count` nodes, conflicts, forks and pending blocks.
     pub(crate) fn reserve_nodes(&mut self, count: u32) -> Result<(), OutOfMemory>
         ensures ok { OnOk result (IsReady self.new count) }
         ensures same { track_of self.new ≡ track_of self.old }
@@ -136,7 +136,7 @@ impl Track {
         };
     }
 
-    /// Where its strand stands, which waits on this side of a fork.
+    /// Returns where its strand stands while it waits on this side of a fork.
     fn stands(&self, side: Side) -> Stood
         ensures { result ≡ tracks.stood_in side (track_of self.now) }
     {
@@ -151,7 +151,7 @@ impl Track {
         }
     }
 
-    /// A fork whose strands share the column.
+    /// Adds a fork whose strands share a column.
     fn fork_shared(&mut self, left: u32, gap: u32, stamp: u64)
         requires { IsReady self.old 3 }
         ensures track { track_of self.new ≡ tracks.forked_in true (track_of self.old) left left gap stamp }
@@ -181,7 +181,7 @@ impl Track {
         *tail = PLAIN;
     }
 
-    /// A fork whose strands have two columns: the right one's token is yet to be split off.
+    /// Adds a fork whose strands have two columns. The right strand's token is yet to be split off.
     fn fork_apart(&mut self, left: u32, right: u32, gap: u32, stamp: u64)
         requires { IsReady self.old 3 }
         ensures track { track_of self.new ≡ tracks.forked_in false (track_of self.old) left right gap stamp }
@@ -295,7 +295,7 @@ impl Track {
         put(conflicts, Conflict { asker, ..conflict });
     }
 
-    /// Adds what comes with a turn that is given back.
+    /// Adds what comes with a released lock.
     pub(crate) fn bring(&mut self, home: Home)
         requires { IsReady self.old (added_home home) }
         ensures track { track_of self.new ≡ brought home (track_of self.old) }
@@ -310,14 +310,14 @@ impl Track {
         }
     }
 
-    /// Which attempt a refused access of a cell is that comes next.
+    /// Returns the attempt number of the next refused access of `cell`.
     pub(crate) fn attempt(&self, cell: u32) -> u32
         ensures { result ≡ tracks.one_more (tracks.tries_of (track_of self.now).tail cell) }
     {
         one_more(self.tail.tries(cell))
     }
 
-    /// The stamp of the node at its place.
+    /// Returns the stamp of the node at its place.
     pub(crate) fn stamp(&self) -> u64
         ensures { result ≡ nodes.stamp_of (track_of self.now).own.nodes (track_of self.now).place }
     {

@@ -34,7 +34,7 @@ impl Spare {
         })
     }
 
-    /// Takes room for so many pending blocks around it.
+    /// Reserves memory for `around` pending blocks around the strand.
     fn reserve(&mut self, around: usize) -> Result<(), OutOfMemory>
         ensures { OnOk result (around ≤ vec_capacity self.new.pending) }
     {
@@ -80,7 +80,7 @@ fn right_strand(alloc: Global, from: u32, around: &[Above], right: Ahead, begin:
 }
 
 impl Track {
-    /// The track of the root's strand, which has done nothing.
+    /// Makes the track of the root's strand, which has done nothing.
     pub(crate) fn new(alloc: Global) -> Result<Track, OutOfMemory>
         ensures track { IfOk result (λ c. track_of c ≡ fresh_track 0 0 0 0) }
         ensures room { IfOk result HasRoom }
@@ -110,7 +110,7 @@ impl Track {
         })
     }
 
-    /// Takes room for so many nodes, conflicts and forks, and for what one right strand begins with.
+    /// Reserves memory for `count` nodes, conflicts and forks, and for what one right strand begins with.
     pub(crate) fn reserve(&mut self, count: u32) -> Result<(), OutOfMemory>
         ensures ok { OnOk result (IsReady self.new count × CanPart self.new) }
         ensures same { track_of self.new ≡ track_of self.old }
@@ -132,7 +132,7 @@ impl Track {
         }
     }
 
-    /// The track of the right strand that is ahead.
+    /// Makes the track of the right strand that is ahead.
     pub(crate) fn part(&mut self) -> Track
         requires spare { CanPart self.old }
         requires ahead { (a : _) × (self.old.ahead ≡ Some a) }
@@ -159,7 +159,7 @@ impl Track {
         right_strand(*nodes.allocator(), *first, pending.as_slice(), right, begin)
     }
 
-    /// The track of a token that only carries a note.
+    /// Makes the track of a token that only carries a note.
     pub(crate) fn note(&self) -> Track
         ensures track { track_of result ≡ note_track self.now.column self.now.gap }
         ensures room { result.room ≡ None }
@@ -188,7 +188,7 @@ impl Track {
         }
     }
 
-    /// Goes on where the strand stands that forked, with the logs of a right strand that ended.
+    /// Takes in the logs of a right strand that ended, and goes on where the strand that forked stands.
     pub(crate) fn take_in(&mut self, ended: Track)
         requires given { HasRoom ended }
         requires long { length self.old.joined + length ended.joined + 1 < 2 ^ 63 }

@@ -1,4 +1,4 @@
-//! The pending blocks around a place, and how the nodes end that go there.
+//! The pending blocks around a place, and the end of the nodes that go there.
 ghost use Rattle.std.specs.Prelude.{◌≡◌, ◌+◌, ◌<◌, ◌≤◌, ◌++◌, [], drop, length, reverse, vec_capacity, vec_len};
 ghost use Rattle.cw_steps.specs.Tracks as tracks;
 
@@ -6,14 +6,14 @@ use super::{PLAIN, Tail};
 use cw_log::Above;
 use cw_tree::BlockState;
 
-/// One attempt more. No more are counted than a number of 32 bits holds.
+/// Returns one attempt more, counted up to the largest 32-bit number.
 pub(crate) fn one_more(attempts: u32) -> u32
     ensures { result ≡ tracks.one_more attempts }
 {
     attempts.saturating_add(1)
 }
 
-/// The nodes end with a block that was closed.
+/// Returns the tail after a block was closed.
 pub(crate) fn tail_behind(state: &BlockState, block: Option<Above>) -> Tail
     ensures { result ≡ tracks.tail_behind state.now block }
 {
@@ -26,7 +26,7 @@ pub(crate) fn tail_behind(state: &BlockState, block: Option<Above>) -> Tail
     }
 }
 
-/// The nodes end with a refused access more.
+/// Returns the tail after one more refused access of `cell`.
 pub(crate) fn tail_tried(cell: u32, tail: Tail) -> Tail
     ensures { result ≡ tracks.tail_tried cell tail }
 {
@@ -38,7 +38,7 @@ pub(crate) fn tail_tried(cell: u32, tail: Tail) -> Tail
 }
 
 impl Tail {
-    /// So many refused accesses of a cell the nodes end with.
+    /// Returns the number of refused accesses of `cell` at the end.
     pub(crate) fn tries(&self, cell: u32) -> u32
         ensures { result ≡ tracks.tries_of self.now cell }
     {
@@ -46,14 +46,14 @@ impl Tail {
     }
 }
 
-/// How many blocks are pending.
+/// Returns the number of pending blocks.
 pub(crate) fn count(pending: &Vec<Above>) -> usize
     ensures { result ≡ length (reverse pending.now.items) }
 {
     pending.len()
 }
 
-/// Takes the innermost block away.
+/// Removes the innermost block.
 pub(crate) fn pop_innermost(pending: &mut Vec<Above>) -> Option<Above>
     ensures block { result ≡ tracks.innermost_of (reverse pending.old.items) }
     ensures rest { reverse pending.new.items ≡ drop 1 (reverse pending.old.items) }
@@ -63,14 +63,14 @@ pub(crate) fn pop_innermost(pending: &mut Vec<Above>) -> Option<Above>
     pending.pop()
 }
 
-/// Keeps so many of the blocks, those that were begun first.
+/// Keeps only the `count` blocks that were begun first.
 pub(crate) fn cut(pending: &mut Vec<Above>, count: usize)
     ensures { reverse pending.new.items ≡ tracks.first_begun count (reverse pending.old.items) }
 {
     pending.truncate(count);
 }
 
-/// The same blocks, where there is room for them.
+/// Copies the blocks of `from`, for which there is room.
 pub(crate) fn copy(pending: &mut Vec<Above>, from: &[Above])
     requires none { pending.old.items ≡ [] }
     requires room { length from.now ≤ vec_capacity pending.old }

@@ -8,7 +8,7 @@ use cw_base::put;
 use cw_log::Side;
 
 impl Track {
-    /// From the left strand of an inline fork to the right one, and from there to the strand that forked.
+    /// Moves from the left strand of an inline fork to the right one, or from the right one to the strand that forked.
     pub(crate) fn turn(&mut self)
         ensures track { track_of self.new ≡ turned_track (track_of self.old) }
         ensures kept { (self.new.spare ≡ self.old.spare) × (self.new.room ≡ self.old.room) }
@@ -53,7 +53,7 @@ impl Track {
         }
     }
 
-    /// The column of a strand in which it stands, its own or one that waits, or 0.
+    /// Returns the column of `strand`, in which the token stands: its own, or one that waits; otherwise 0.
     pub(crate) fn column_of(&self, strand: u32) -> u32
         ensures { result ≡ column_of_strand (track_of self.now) strand }
     {
