@@ -1,4 +1,4 @@
--- What a question reads, and what that tells.
+-- What a question reads, and what its answer tells.
 use Rattle.std.specs.Prelude.{◌≡◌, ℕ, ◌-◌, ◌<◌, ◌≤◌, ◌++◌, List, [], Contains, length, take, Option, Some, None}
 use Rattle.std.specs.Borrow.{MutBor}
 use Rattle.cw_tree.specs.declared.access.Mark.{Mark}
@@ -18,11 +18,11 @@ use Rattle.cw_steps.specs.Views.{held_by, view_of, IsTokenOf}
 use Rattle.cw_board.specs.declared.board.Board.{Board}
 use Rattle.cw_board.specs.Boards.{cells_in, columns_of}
 
--- the notes that it made since it was t, newest first
+-- the notes that the token made since it was `t`, newest first
 abbrev pub noted_since : (t u : StrandToken) → List Note
 noted_since t u = take (length (view_of u).notes - length (view_of t).notes) (view_of u).notes
 
--- since it was t it only read words
+-- since it was `t`, the token only read words
 pub record HasRead (t u : StrandToken) : Type 0 where
   pub notes : List Note
   pub me : u.seat.me ≡ (record (view_of t) { notes = notes ++ (view_of t).notes }, held_by t)
@@ -30,12 +30,12 @@ pub record HasRead (t u : StrandToken) : Type 0 where
   pub track : u.track ≡ t.track
   pub token : token_of u ≡ token_of t
 
--- the word of gap g was noted to be n; a gap that is not in use reads as 0
+-- the word of gap `g` was noted to be `n`; a gap that is not in use reads as 0
 pub record IsNoted (c : ColumnTable) (cells : ℕ) (notes : List Note) (g n : ℕ) : Type 0 where
   pub word : g < columns.used c → Contains notes (record { word = gap_word cells g; value = n })
   pub none : columns.used c ≤ g → n ≡ 0
 
--- what the columns of a tier tell, and notes of gap words
+-- what the columns of a tier tell, and what notes tell of gap words
 abbrev pub ToldBy : ColumnTable → (cells : ℕ) → List Note → Read → Answer → Type 0
 ToldBy c cells notes (Owner i) a = held c [] (Owner i) ≡ a
 ToldBy c cells notes (Lead t) a = held c [] (Lead t) ≡ a
@@ -57,7 +57,7 @@ abbrev pub ToldFor : Option Question → StrandToken → Read → Answer → Typ
 ToldFor None u r a = ⊥
 ToldFor (Some q) u r a = ToldBy q.tier q.cells (noted_since q.token.now u) r a
 
--- it reads what the question is of, for the token that was lent, which only read words since
+-- It reads what the question is about, for the token that was lent. That token only read words since.
 pub record IsReading (q : Question) (b : Board) (lent : MutBor StrandToken) (c : ColumnTable) : Type 0 where
   pub name : lent.ghost_name ≡ q.token.ghost_name
   pub read : HasRead q.token.now lent.now
@@ -72,7 +72,8 @@ ReadsFor (Some q) b lent c = IsReading q b lent c
 
 -- ## What it answers
 
--- the verdict on the access made last and one of this asker, by the columns of a tier and by words that the token noted in one row
+-- The verdict on the access `last` and the next one of the asker, by some columns of a tier and some words that the token noted in
+-- one row. Nothing says that these columns were the board's.
 pub record IsAnswered (cells : ℕ) (last : Mark) (asker : ℕ) (u : StrandToken) (v : Verdict) : Type 0 where
   pub tier : ColumnTable
   pub newer : List Note
@@ -81,7 +82,8 @@ pub record IsAnswered (cells : ℕ) (last : Mark) (asker : ℕ) (u : StrandToken
   pub noted : (view_of u).notes ≡ newer ++ notes ++ older
   pub gives : Gives (ToldBy tier cells notes) last asker v
 
--- an access is only refused where the verdict was against it
+-- If the access was refused, some columns and noted words give a verdict against it: against an access made with the stamp
+-- `k.last`, by the block `k.block`. Nothing is said of an access that was made.
 abbrev pub IsRefusedAfter : (cells asker : ℕ) → StrandToken → Access → Type 0
 IsRefusedAfter cells asker u (Value v) = Unit {0}
 IsRefusedAfter cells asker u (Conflict k) = (last : Mark) × (k.last ≡ last.stamp) × IsAnswered cells last asker u (Against k.block)

@@ -17,35 +17,36 @@ use Rattle.cw_board.specs.Sound.{IsSoundToken}
 abbrev pub cells_in : Board → ℕ
 cells_in b = cells_of (key_of b.shared)
 
--- so many attempts may a block or an access have
+-- the most attempts that a block or an access may have
 abbrev pub budget_of : Board → ℕ
 budget_of b = (key_of b.shared).aborts
 
 abbrev pub columns_of : Board → ℕ
 columns_of b = (key_of b.shared).columns
 
--- which table it is
+-- which table the board has
 abbrev pub table_of : Board → TableId
 table_of b = b.shared.table.shared.table_id
 
--- the word of its gap shows a block: as it did, or the one in its place now
+-- The word of the token's gap shows a block: the one that it showed before, otherwise the one in the token's place now.
 abbrev pub IsShown : (before after : TrackParts) → Type 0
 IsShown c d = d.word ≡ (if c.word == 0 then stamp_of d.own.nodes d.place else c.word)
 
--- it shows none, once the block is closed that it showed
+-- the word shows no block if the block that it showed was closed
 abbrev pub IsHidden : (before after : TrackParts) → Type 0
 IsHidden c d = d.word ≡ (if c.word == stamp_of c.own.nodes c.place then 0 else c.word)
 
--- any table: each run picks its own
+-- any table, for type parameters that nobody chose; each run picks its own
 abbrev pub no_table : TableId
 no_table = record { words = 0; slots = 0; views_name = 0; atom = 0; block = 0; offset = 0; slot_names = [] }
 
--- what a board with a name shows: how many cells it has, and how many attempts a block or an access may have
+-- what a named board shows: the number of its cells, and the most attempts that a block or an access may have
 pub record Extent : Type 0 where
   pub cells : ℕ
   pub budget : ℕ
 
--- entries that could be one cell's, from some first value on: their stamps rise, and each has the value that those before it left
+-- Entries that may be those of one cell, with some first value: their stamps rise, and each has the value that those before it
+-- left.
 pub record IsOfOneCell (es : List Entry) : Type 0 where
   pub first : ℤ
   pub rising : IsStrictlyIncreasing (stamps es)
@@ -56,8 +57,8 @@ pub record AreOfCells (cells : ℕ) (js : List (List Entry)) : Type 0 where
   pub many : length js ≡ cells
   pub each : (n : ℕ) (es : List Entry) → slice_get js n ≡ Some es → IsOfOneCell es
 
--- A token at this table, with so many columns, between two calls: it has no turn, the gaps that it and the strands that wait use are there, and
--- it owns a column for each of its logs.
+-- A token between two calls, at this table with so many columns. It has no turn. The gaps that it and the strands that wait use
+-- exist. It owns a column for each of its logs.
 pub record IsAt (id : TableId) (columns : ℕ) (t : StrandToken) : Type 0 where
   pub table : t.seat.table_id ≡ id
   pub here : (view_of t).here ≡ true

@@ -1,4 +1,4 @@
--- What is true between two calls of what a token stands for.
+-- What is true, between two calls, of what a token stands for.
 use Rattle.std.specs.Prelude.{◌≡◌, ℕ, zero, suc, ◌+◌, ◌*◌, ◌<◌, ◌≤◌, All, List, [], ◌∷◌, length}
 use Rattle.cw_tree.specs.declared.node.Node.{Node}
 use Rattle.cw_tree.specs.declared.conflict.Conflict.{Conflict}
@@ -10,29 +10,29 @@ use Rattle.cw_steps.specs.Stands.{blocks_outside}
 use Rattle.cw_steps.specs.Totals.{total}
 use Rattle.cw_steps.specs.Views.{share}
 
--- this place is in so many blocks of its strand
+-- the place `p` lies in `n` blocks of its strand `s`
 abbrev pub Climbs : List Node → (strand place n : ℕ) → Type 0
 Climbs ns s p zero = p ≡ s
 Climbs ns s p (suc n) = (p < length ns) × Climbs ns s (parent_of ns p) n
 
--- and so are those of the strands that wait
+-- so do the places of the strands that wait, each in its own number of blocks
 abbrev pub ClimbOut : List Node → List Open → List ℕ → Type 0
 ClimbOut ns [] ks = Unit {0}
 ClimbOut ns (o ∷ os) [] = ⊥
 ClimbOut ns (o ∷ os) (k ∷ ks) = Climbs ns o.strand o.place k × ClimbOut ns os ks
 
--- of the blocks around each of their places so many are its strand's own
+-- of the blocks around each waiting place, at least that many belong to its own strand
 abbrev pub OwnOut : List Open → List ℕ → Type 0
 OwnOut [] ks = Unit {0}
 OwnOut (o ∷ os) [] = ⊥
 OwnOut (o ∷ os) (k ∷ ks) = (k + blocks_outside os ≤ length o.around) × OwnOut os ks
 
--- no number is greater
+-- no number exceeds `seen`
 abbrev pub AreLow : (seen : ℕ) → List ℕ → Type 0
 AreLow seen = All (λ b. b ≤ seen)
 
--- It is in so many blocks of its own, in its strand and in those that wait, which are innermost around each place. So many numbers may still be drawn by it; of those that it knows
--- none is greater than this one.
+-- The token is in `begun` blocks of its own strand, and each strand that waits in a number of its own; these are the innermost
+-- blocks around each place. `room` counts the numbers that it may still draw. No number that it knows exceeds `seen`.
 pub record IsSoundToken (x : Token) (room seen : ℕ) : Type 0 where
   pub begun : ℕ
   pub waiting : List ℕ

@@ -1,4 +1,4 @@
--- Turns that a token waited for.
+-- Turns for which a token waited.
 use Rattle.std.specs.Prelude.{◌≡◌, ℕ, ◌<◌, ◌≤◌, List, [], ◌∷◌, Some}
 use Rattle.cw_steps.specs.declared.draw.Aim.{Aim}
 use Rattle.cw_steps.specs.declared.draw.Home.{Home}
@@ -18,7 +18,7 @@ use Rattle.cw_log.specs.declared.board.Forked.{Forked}
 use Rattle.cw_log.specs.declared.board.Forked.TheVariants.{Two, Inline}
 use Rattle.cw_board.specs.declared.board.Board.{Board}
 
--- it found turns taken, and did nothing else
+-- the token found turns taken, and did nothing else
 pub record HasWaited (t t' : StrandToken) : Type 0 where
   pub notes : List Note
   pub me : t'.seat.me ≡ (record (view_of t) { notes = notes }, held_by t)
@@ -26,7 +26,7 @@ pub record HasWaited (t t' : StrandToken) : Type 0 where
   pub stop : t'.stop ≡ t.stop
   pub token : token_of t' ≡ token_of t
 
--- and then it took the turn of slot n
+-- it found turns taken, and then took the turn of slot `n`
 pub record HasTaken (b : Board) (aim : Aim) (n : ℕ) (t t' : StrandToken) : Type 0 where
   pub notes : List Note
   pub takes : TakesIt (key_of b.shared) aim n (record (view_of t) { notes = notes }, held_by t) t'.seat.me
@@ -34,11 +34,12 @@ pub record HasTaken (b : Board) (aim : Aim) (n : ℕ) (t t' : StrandToken) : Typ
   pub stop : t'.stop ≡ t.stop
   pub token : token_of t' ≡ token_of t
 
--- but for its turns, the newest number that it knows, and its notes
+-- the view without its turns, the newest number that it knows, and its notes
 abbrev pub at_rest : View → View
 at_rest v = record v { turns = []; seen = 0; notes = [] }
 
--- It has the turn of slot n and no other, and y lies there now. Since it was t, a token of this board, it did nothing but wait for that turn.
+-- The token has the turn of slot `n` and no other, and `y` lies there now. It was `t`, a token of this board, and since then only
+-- waited for that turn.
 pub record IsHolding (b : Board) (n : ℕ) (y : Slot) (t u : StrandToken) : Type 0 where
   pub was : IsOf b t
   pub table : IsTokenOf b.shared u
@@ -50,7 +51,7 @@ pub record IsHolding (b : Board) (n : ℕ) (y : Slot) (t u : StrandToken) : Type
   pub track : u.track ≡ t.track
   pub token : token_of u ≡ token_of t
 
--- Since it was t it took the tier's turn, beside those that it had, and y lies there now.
+-- Since it was `t`, the token took the tier's turn beside those that it had, and `y` lies there now.
 pub record HasTierOver (b : Board) (y : Slot) (t u : StrandToken) : Type 0 where
   pub table : IsTokenOf b.shared u
   pub turn : newest_slot (view_of u).turns ≡ Some (cells_in b)
@@ -61,21 +62,22 @@ pub record HasTierOver (b : Board) (y : Slot) (t u : StrandToken) : Type 0 where
   pub track : u.track ≡ t.track
   pub token : token_of u ≡ token_of t
 
--- It has the turn of the tier, which is with so many columns in use; its own and its gap are among them.
+-- It has the turn of the tier, which is to come home with so many columns in use. Its own column and gap are among them.
 pub record HasTier (b : Board) (y : Slot) (u : StrandToken) : Type 0 where
   pub few : newest_used (view_of u).turns ≤ columns_of b
   pub column : (view_of u).column < newest_used (view_of u).turns
   pub gap : (view_of u).gap < newest_used (view_of u).turns
   pub whole : IsTierOf (columns_of b) (newest_used (view_of u).turns) y
 
--- It has this cell, which lay in the slot of its newest turn, but for its room and how many entries were cleaned; it took the turn for this.
+-- It has the cell that lay in the slot of its newest turn; only the room and the number of cleaned entries may differ. It took that
+-- turn for `a`.
 pub record HasCell (a : Aim) (x : CellParts) (u : StrandToken) : Type 0 where
   pub lay : CellParts
   pub aim : newest_aim (view_of u).turns ≡ a
   pub there : newest_cell (view_of u).turns ≡ Some lay
   pub same : IsAsItLay lay x
 
--- it comes with the tier's turn
+-- what is told comes with the tier's turn
 abbrev pub IsOfTier : Home → Type 0
 IsOfTier (home.Refused c) = ⊥
 IsOfTier home.Plain = Unit {0}
@@ -95,7 +97,7 @@ BringsNothing (home.Split fork used) = ⊥
 BringsNothing (home.Merge fork used) = ⊥
 BringsNothing (home.Early before used) = ⊥
 
--- it drew a fork's number while it had the tier's turn, and gave that back
+-- it drew a fork's number while it had the tier's turn, and gave that turn back
 pub record HasForked (b : Board) (left right gap stamp : ℕ) (u u' : StrandToken) : Type 0 where
   pub table : IsTokenOf b.shared u'
   pub later : (view_of u).seen < stamp
@@ -106,7 +108,7 @@ pub record HasForked (b : Board) (left right gap stamp : ℕ) (u u' : StrandToke
   pub token : token_of u' ≡ drawn_token (draw.Fork left right gap) stamp (token_of u)
   pub room : u'.track.room ≡ u.track.room
 
--- what comes of a fork are tokens of this board
+-- the tokens that come of a fork are tokens of this board
 abbrev pub AreOf : Board → Forked StrandToken → Type 0
 AreOf b (Two fork left right) = IsOf b left × IsOf b right
 AreOf b (Inline token) = IsOf b token

@@ -1,4 +1,4 @@
--- What stands in the way of an access, and what is refused with it.
+-- What stands in the way of an access, and what a refused access tells.
 use Rattle.std.specs.Prelude.{◌≡◌, ℕ, List, Option, Some, None, length}
 use Rattle.cw_tree.specs.declared.access.Mark.{Mark}
 use Rattle.cw_tree.specs.declared.conflict.Conflict.{Conflict}
@@ -15,17 +15,17 @@ use Rattle.cw_steps.specs.Tracks.{track_of}
 use Rattle.cw_board.specs.declared.victims.Barrier.{Barrier}
 use Rattle.cw_board.specs.Asked.{IsAnswered}
 
--- the stamp of the block that has to fall, or 0
+-- the begin of the victim, or 0 without a victim
 abbrev pub begin_of : Option Above → ℕ
 begin_of None = 0
 begin_of (Some a) = a.begin
 
--- and which attempt that is; of an access for which none has to, its own
+-- the attempt number of the victim, or without a victim that of the access itself
 abbrev pub attempt_refused : Option Above → (own : ℕ) → ℕ
 attempt_refused None n = n
 attempt_refused (Some a) n = a.attempt
 
--- the verdict was against the token's next access, and what has to fall is a pending block around its place, or nothing
+-- the verdict went against the token's next access, and the victim is a pending block around the token's place, or there is none
 pub record IsBarrier (cells : ℕ) (last : Mark) (t u : StrandToken) (x : Barrier) : Type 0 where
   pub against : IsAnswered cells last (track_of t.track).column u (Against x.block)
   pub around : IsAround (token_of t) (begin_of x.victim)

@@ -25,7 +25,7 @@ use cw_steps::{Aim, Home, StrandToken};
 use cw_tree::{Conflict, Mark};
 use std::sync::Wait;
 
-/// The block that has to fall, and which attempt that is: of an access for which none has to, its own.
+/// The victim's begin and attempt number. Without a victim: 0, and the attempt of the access itself.
 fn fallen(victim: Option<Above>, attempt: u32) -> (u64, u32)
     ensures { (result.0 ≡ begin_of victim) × (result.1 ≡ attempt_refused victim attempt) }
 {
@@ -35,7 +35,7 @@ fn fallen(victim: Option<Above>, attempt: u32) -> (u64, u32)
     }
 }
 
-/// A conflict, with the newest live accesses of the cell.
+/// Makes a conflict that carries the newest live accesses of the cell.
 fn conflict_of(
     held: &Cell,
     cell: u32,
@@ -60,7 +60,7 @@ fn conflict_of(
 }
 
 impl Board {
-    /// Notes a refused access of a cell that is held, with its conflict, and puts the cell back.
+    /// Adds a refused access of a cell that is held to the log, with its conflict, and puts the cell back.
     fn note_refused(&self, token: &mut StrandToken, cell: u32, held: Cell, conflict: Conflict)
         requires cell { cell < cells_in self.now }
         requires held { (t : StrandToken) × (y : Slot) × IsHolding self.now cell y t token.old }
@@ -78,7 +78,7 @@ impl Board {
         self.shared.give(token, cell, Home::Refused(conflict));
     }
 
-    /// Refuses an access of a cell that is held. Where there is no memory for the conflict, nothing is noted.
+    /// Refuses an access of a cell that is held. If memory runs out for the conflict, nothing is added to the log.
     fn refuse(
         &self,
         token: &mut StrandToken,
@@ -111,7 +111,7 @@ impl Board {
         Ok(Access::Conflict(told))
     }
 
-    /// Makes an access of a cell that is held, with room for one more, unless it conflicts with the one made last.
+    /// Makes an access of a cell that is held, with room for one more entry, or refuses it if it conflicts with the newest one.
     fn access_held<R: Wait>(
         &self,
         rt: &R,
@@ -141,7 +141,7 @@ impl Board {
         }
     }
 
-    /// Reads a cell, or writes a value to it; or the access is refused, since it conflicts with the one made last.
+    /// Reads `cell`, or writes `write` to it if a value is given. Refuses the access if it conflicts with the newest one.
     pub fn access<R: Wait>(
         &self,
         rt: &R,

@@ -1,4 +1,4 @@
-//! Questions: what the tier tells that a strand has out, and gap words that it reads.
+//! Runs the conflict query for a strand that holds the tier, and records each gap word that it reads.
 ghost use Rattle.std.specs.Prelude.{◌≡◌, ◌+◌, ◌≤◌, Some};
 ghost use Rattle.cw_trace.specs.Columns as columns;
 ghost use Rattle.cw_trace.specs.Query.{Covers, Gives};
@@ -30,7 +30,7 @@ impl Asking for Brand {
     ghost question = { None };
 }
 
-/// A tier that a strand has out, and gap words, which its token reads and notes.
+/// A tier that a strand has taken out, and the gap words that its token reads and notes.
 #[derive(Drop)]
 pub(crate) struct Reader<'a, W> {
     board: &'a Board,
@@ -82,7 +82,7 @@ impl<'a, W: Asking> Columns for Reader<'a, W> {
     }
 }
 
-/// The verdict on the access made last and one that the asker makes next.
+/// Returns the verdict on the access `last` and the asker's next one.
 fn ask_with<W: Asking, K: Ledger, L: Ledger>(
     reader: &mut Reader<'_, W>,
     last: Mark,
@@ -103,7 +103,7 @@ fn ask_with<W: Asking, K: Ledger, L: Ledger>(
     ask_by(reader, last, asker, looks, compares)
 }
 
-/// Whether a pending block is above the access made last.
+/// Whether the pending block `block` is above the access `last`.
 fn contains_with<W: Asking, K: Ledger, L: Ledger>(
     reader: &mut Reader<'_, W>,
     block: Mark,
@@ -122,7 +122,7 @@ fn contains_with<W: Asking, K: Ledger, L: Ledger>(
 }
 
 impl Board {
-    /// The verdict on the access made last and one that the asker makes next, by a tier that is out.
+    /// Returns the verdict on the access `last` and the asker's next one, by a tier that is out.
     pub(crate) fn ask_tier<K: Ledger, L: Ledger>(
         &self,
         tier: &Tier,
@@ -149,7 +149,7 @@ impl Board {
         ask_with::<Brand, K, L>(&mut reader, last, asker, looks, compares)
     }
 
-    /// Whether a pending block is above the access made last, by a tier that is out.
+    /// Whether the pending block `block` is above the access `last`, by a tier that is out.
     pub(crate) fn contains_in<K: Ledger, L: Ledger>(
         &self,
         tier: &Tier,

@@ -27,7 +27,7 @@ impl Board {
         Ok(())
     }
 
-    /// Ends the block in the token's place, which is committed.
+    /// Commits the block in the token's place.
     pub fn commit(&self, token: &mut StrandToken)
         requires of { IsOf self.now token.old }
         requires goes { GoesFree (budget_of self.now) (token_of token.old) }
@@ -43,7 +43,7 @@ impl Board {
         }
     }
 
-    /// Puts out a value.
+    /// Outputs `value`.
     pub fn out(&self, token: &mut StrandToken, value: i64) -> Result<(), OutOfMemory>
         requires of { IsOf self.now token.old }
         requires goes { GoesFree (budget_of self.now) (token_of token.old) }
@@ -87,7 +87,7 @@ impl Board {
         self.shared.draw(token, Draw::End { aborted });
     }
 
-    /// Shows the block in the token's place by the word of its gap, if that shows none yet.
+    /// Shows the block in the token's place in the word of its gap, if that shows none yet.
     fn show(&self, token: &mut StrandToken)
         requires { IsOf self.now token.old }
         ensures of { IsOf self.now token.new }
@@ -100,7 +100,7 @@ impl Board {
         }
     }
 
-    /// Shows no block by the word of the token's gap.
+    /// Clears the word of the token's gap, so that it shows no block.
     pub(crate) fn hide(&self, token: &mut StrandToken)
         requires { IsOf self.now token.old }
         ensures of { IsOf self.now token.new }

@@ -19,7 +19,7 @@ impl Board {
     ghost use Rattle.cw_steps.specs.Views.{key_of};
     ghost use Rattle.cw_board.specs.Boards.{budget_of, cells_in, IsOf};
 
-    /// A board whose cells have these first values, whose tier may have as many columns as the limits say, and the root's token.
+    /// Makes a board with the first values `init` for its cells and as many columns as `limits` say, and the root's token.
     pub fn new(
         alloc: Global,
         init: &[i64],
@@ -35,14 +35,14 @@ impl Board {
         Ok((Board { shared }, token))
     }
 
-    /// The node of the token's log in which the next one goes.
+    /// Returns the node of the token's log beneath which its next node goes.
     pub fn place(&self, token: &StrandToken) -> u32
         ensures { result ≡ (token_of token.now).place }
     {
         token.place()
     }
 
-    /// The nodes of the token's own log.
+    /// Returns the nodes of the token's own log.
     pub fn nodes<'a>(&self, token: &'a StrandToken) -> &'a [Node]
         ensures { result.now ≡ (token_of token.now).own.nodes }
     {

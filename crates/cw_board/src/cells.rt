@@ -1,4 +1,4 @@
-//! Cells, under their turns.
+//! Cells, each used with its lock held.
 ghost use Rattle.std.specs.Prelude.{◌≡◌, ◌<◌, ℕ, unwrap_or};
 ghost use Rattle.cw_stack.specs.Cells.{entries_value};
 ghost use Rattle.cw_steps.specs.declared.table.StrandToken.{StrandToken};
@@ -22,7 +22,7 @@ use cw_steps::{Aim, Draw, Home, StrandToken};
 use cw_tree::Mark;
 use std::sync::Wait;
 
-/// The value of a cell after an access that reads, or writes a value.
+/// Returns the cell's value after an access that reads it, or writes a value.
 fn value_after(held: &Cell, write: Option<i64>) -> i64
     ensures { result ≡ unwrap_or write (entries_value held.now) }
 {
@@ -33,7 +33,7 @@ fn value_after(held: &Cell, write: Option<i64>) -> i64
 }
 
 impl Board {
-    /// Waits for a cell's turn, and takes the cell.
+    /// Waits for the cell's lock, and takes the cell out.
     pub(crate) fn hold_cell<R: Wait>(
         &self,
         rt: &R,
@@ -55,7 +55,7 @@ impl Board {
         }
     }
 
-    /// Puts a cell where it lay, as it lay there or undone, and gives its turn back.
+    /// Puts the cell back, unchanged or undone, and releases its lock.
     pub(crate) fn leave_cell(&self, token: &mut StrandToken, cell: u32, held: Cell)
         requires cell { cell < cells_in self.now }
         requires held { (t : StrandToken) × (y : Slot) × IsHolding self.now cell y t token.old }
@@ -70,7 +70,7 @@ impl Board {
         self.shared.give(token, cell, Home::Plain);
     }
 
-    /// Makes an access of a cell that is held, and puts the cell back. Answers its value after that.
+    /// Makes an access of a cell that is held, and puts the cell back. Returns the value after the access.
     pub(crate) fn make_access(
         &self,
         token: &mut StrandToken,
@@ -104,7 +104,7 @@ impl Board {
         value
     }
 
-    /// The stamps of the newest eight accesses of a cell.
+    /// Returns the stamps of the newest eight accesses of `cell`.
     pub fn chain<R: Wait>(
         &self,
         rt: &R,

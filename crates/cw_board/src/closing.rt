@@ -13,8 +13,9 @@ use cw_steps::StrandToken;
 use cw_tree::Closed;
 
 impl Board {
-    /// What the board gives with the root's token, to which all others were joined: the tree of its logs in depth-first order, their conflicts
-    /// and halt with the tree's numbers, and each cell's entries. Without the memory for it, board and token are handed back.
+    /// Closes the board with the root's token, to which all others were joined. Returns the tree of its logs in depth-first order,
+    /// their conflicts and halt with the tree's numbers, and each cell's entries. If memory runs out, it gives back board and
+    /// token.
     pub fn close(self, token: StrandToken) -> Result<Closed, (Board, StrandToken, OutOfMemory)>
         requires of { IsOf self token }
         ensures together { IfOk result (λ c. IsPutTogether (logs (token_of token)) (token_of token).stop c) }

@@ -1,4 +1,4 @@
-//! Forks, and what splits and merges make of the tier, under its turn.
+//! Forks, and what splits and merges do to the tier, with its lock held.
 ghost use Rattle.std.specs.Prelude.{◌≡◌, ◌+◌, ◌<◌, ◌≤◌, ◌==◌, ℕ, Bool, Some, IfOk, IfErr, OnOk, OnErr, if◌then◌else◌};
 ghost use Rattle.cw_trace.specs.Columns as columns;
 ghost use Rattle.cw_trace.specs.Traces.{Traces};
@@ -22,7 +22,7 @@ use cw_steps::{Aim, Draw, Home, StrandToken};
 use cw_trace::{Early, Tier};
 use std::sync::Wait;
 
-/// Whether a fork of a tier is split there, or `None` where there is no such fork.
+/// Whether the fork is split in this tier, or `None` if there is no such fork.
 fn split_state(tier: &Tier, fork: u32) -> Option<bool>
     ensures there { (split : Bool) → result ≡ Some split → IsForkThere split tier.now.columns fork }
     ensures found { (split : Bool) → IsForkThere split tier.now.columns fork → result ≡ Some split }
@@ -34,7 +34,7 @@ fn split_state(tier: &Tier, fork: u32) -> Option<bool>
     }
 }
 
-/// Splits a fork of a tier, if it is whole there. No rule of the table says yet that it is.
+/// Splits the fork in the tier, if it is there and not split. No rule of the table says yet that it is.
 fn split_in(tier: &mut Tier, fork: u32) -> Result<(), Early>
     ensures used { columns.used tier.new.columns ≡ columns.used tier.old.columns }
     ensures room { tier.new.columns.room ≡ tier.old.columns.room }
@@ -47,7 +47,7 @@ fn split_in(tier: &mut Tier, fork: u32) -> Result<(), Early>
     }
 }
 
-/// Merges a fork of a tier, if it is split there. No rule of the table says yet that it is.
+/// Merges the fork in the tier, if it is there and split. No rule of the table says yet that it is.
 fn merge_in(tier: &mut Tier, fork: u32)
     ensures used { columns.used tier.new.columns ≡ columns.used tier.old.columns }
     ensures room { tier.new.columns.room ≡ tier.old.columns.room }
@@ -59,7 +59,7 @@ fn merge_in(tier: &mut Tier, fork: u32)
     }
 }
 
-/// The gap that both strands of a fork use: that of the strand that forked, or where its word shows a block a new one.
+/// Returns the gap that both strands of a fork use: that of the strand that forked, or a new one if its word shows a block.
 fn gap_for(word: u64, gap: u32, left: u32) -> u32
     ensures { result ≡ (if word == 0 then gap else left) }
 {
@@ -67,7 +67,7 @@ fn gap_for(word: u64, gap: u32, left: u32) -> u32
 }
 
 impl Board {
-    /// Waits for the tier's turn, and takes the tier.
+    /// Waits for the tier's lock, and takes the tier out.
     pub(crate) fn hold_tier<R: Wait>(&self, rt: &R, token: &mut StrandToken, aim: Aim) -> Tier
         requires { IsOf self.now token.old }
         ensures held { IsHolding self.now (cells_in self.now) slot.Empty token.old token.new }
@@ -78,7 +78,7 @@ impl Board {
         self.tier_over(rt, token, aim)
     }
 
-    /// Puts the tier where it lay, and gives its turn back, with what was done.
+    /// Puts the tier back and releases its lock, and tells what was done.
     pub(crate) fn leave_tier(&self, token: &mut StrandToken, tier: Tier, home: Home)
         requires held { (t : StrandToken) × (y : Slot) × IsHolding self.now (cells_in self.now) y t token.old }
         requires tier { HasTier self.now (slot.Tier tier) token.old }
@@ -92,7 +92,8 @@ impl Board {
         self.shared.give(token, place, home);
     }
 
-    /// Lets the right strand of a fork go on while its left one does; or another fork is to be split before.
+    /// Splits the fork, so that its right strand may go on while the left one does. Returns `Early` if another fork has to be split
+    /// first.
     pub fn split<R: Wait>(&self, rt: &R, token: &mut StrandToken, fork: u32) -> Result<(), Early>
         requires of { IsOf self.now token.old }
         requires on { IsOn (budget_of self.now) (token_of token.old) }
@@ -112,7 +113,7 @@ impl Board {
         done
     }
 
-    /// Puts together again what a fork had split, with the token of the strand that forked.
+    /// Merges again what the split of `fork` parted, for the token of the strand that forked.
     pub fn merge<R: Wait>(&self, rt: &R, token: &mut StrandToken, fork: u32)
         requires of { IsOf self.now token.old }
         requires on { IsOn (budget_of self.now) (token_of token.old) }
@@ -126,7 +127,7 @@ impl Board {
         self.leave_tier(token, tier, Home::Merge { fork, used });
     }
 
-    /// Makes a fork where the token stands, with two tokens if there are columns for both strands.
+    /// Makes a fork where the token stands: with two tokens if there are columns for both strands, otherwise inline.
     pub fn fork<R: Wait>(
         &self,
         rt: &R,
@@ -159,7 +160,7 @@ impl Board {
         }
     }
 
-    /// A fork whose strands have the next two columns.
+    /// Makes a fork whose strands have the next two columns.
     fn fork_two(&self, token: StrandToken, tier: Tier, left: u32) -> Forked<StrandToken>
         requires held { (t : StrandToken) × (y : Slot) × IsHolding self.now (cells_in self.now) y t token }
         requires aim { newest_aim (view_of token).turns ≡ aims.Fork }
@@ -181,7 +182,7 @@ impl Board {
         }
     }
 
-    /// A fork in the token's own column.
+    /// Makes an inline fork, in the token's own column.
     fn fork_inline(&self, token: StrandToken, tier: Tier) -> Forked<StrandToken>
         requires held { (t : StrandToken) × (y : Slot) × IsHolding self.now (cells_in self.now) y t token }
         requires tier { HasTier self.now (slot.Tier tier) token }
@@ -200,7 +201,7 @@ impl Board {
         Forked::Inline { token }
     }
 
-    /// Draws a fork's number while the tier is out, and brings the tier home.
+    /// Draws a fork's number while the tier is out, and puts the tier back.
     fn make_fork(
         &self,
         token: &mut StrandToken,

@@ -10,7 +10,7 @@ use cw_steps::StrandToken;
 use cw_tree::Halt;
 
 impl Board {
-    /// Stops the strand. The strand that the halt names is not read.
+    /// Stops the strand. The strand number inside `halt` is not read.
     pub fn halt(&self, token: &mut StrandToken, halt: Halt)
         requires of { IsOf self.now token.old }
         requires may { MayHalt (budget_of self.now) (token_of token.old) halt }
@@ -21,7 +21,7 @@ impl Board {
         self.shared.stop(token, halt);
     }
 
-    /// Whether some strand was found to have stopped; false tells nothing.
+    /// Whether the stop flag was found set. False proves nothing: a strand may have stopped all the same.
     pub fn halted(&self, token: &mut StrandToken) -> bool
         requires { IsOf self.now token.old }
         ensures of { IsOf self.now token.new }

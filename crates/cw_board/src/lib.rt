@@ -1,10 +1,9 @@
-//! The board of running threads: what a strand does, by the steps of its token on the table that threads share.
-//! Stands on `atomic_table`, `cw_base`, `cw_code`, `cw_order`, `cw_tree`, `cw_trace`, `cw_xconf`, `cw_stack`, `cw_log`, `cw_steps`, and the
-//! definitions of `cw_course`.
-//! Contracts cite `cw_log`: `specs/Tokens.antt` (what each call makes of what a token stands for, and what calls ask), and here
-//! `specs/Boards.antt` (what a token of a board is, and what journals are), `specs/Sound.antt` (what is true of a token between two calls),
-//! `specs/Turns.antt` (what it knows while it has a turn), `specs/Asked.antt` (questions and their answers) and `specs/Victims.antt` (what is
-//! refused with an access).
+//! The board of running threads: what a strand does, by steps of its token on the table that threads share. Use it where strands
+//! run on several threads at once; one thread needs only `cw_record`, and a simulation `cw_core`.
+//! Contracts cite `specs/Tokens.antt` of `cw_log` (what each call makes of what a token stands for, and what calls ask), and here
+//! `specs/Boards.antt` (what a token of a board is, and what journals are), `specs/Sound.antt` (what is true of a token between two
+//! calls), `specs/Turns.antt` (what it knows while it has a turn), `specs/Asked.antt` (questions and their answers) and
+//! `specs/Victims.antt` (what a refused access tells).
 #![tactic(auto)]
 
 mod access;

@@ -1,4 +1,4 @@
-//! Boards and tokens under a name of their table, by which their types say that the token is one of the board.
+//! Boards and tokens whose types name their table. So the types say that a token belongs to a board.
 ghost use Rattle.std.specs.Prelude.{◌≡◌, IfOk, IfErr};
 ghost use Rattle.cw_course.specs.Closings.{IsPutTogether};
 ghost use Rattle.cw_log.specs.Tokens.{logs};
@@ -14,7 +14,7 @@ use cw_tree::{Closed, Halt, Node};
 use std::marker::{Brand, Model, PhantomData};
 use std::sync::Wait;
 
-/// Which table it is, and how many columns its tier may have. Each run picks it.
+/// Names a table, and the number of columns that its tier may have. Each run picks it.
 pub trait Naming: Send + Sync {
     ghost use Rattle.std.specs.Prelude.{ℕ};
     ghost use Rattle.atomic_table.specs.Seated.{TableId};
@@ -32,14 +32,14 @@ impl Naming for Brand {
     ghost columns = { 0 };
 }
 
-/// A board whose table has this name. Contracts see how many cells there are, and attempts of a block or an access.
+/// A board whose table is `N.table`. Contracts see the number of its cells, and the most attempts of a block or an access.
 #[derive(Drop)]
 pub struct NamedBoard<N: Naming> {
     board: Board,
     of: PhantomData<N>,
 }
 
-/// A token of the board whose table has this name. Contracts see what it stands for.
+/// A token of the board whose table is `N.table`. Contracts see what it stands for.
 #[derive(Drop)]
 pub struct NamedToken<N: Naming> {
     token: StrandToken,
@@ -70,7 +70,7 @@ impl<N: Naming> Model for NamedBoard<N> {
 }
 
 impl Board {
-    /// The board and a token of it, under the name of its table.
+    /// Returns the board and a token of it with the name of their table in their types.
     pub fn named<N: Naming>(self, token: StrandToken) -> (NamedBoard<N>, NamedToken<N>)
         requires of { IsOf self token }
         requires name { (table_of self ≡ N.table) × (columns_of self ≡ N.columns) }
@@ -90,8 +90,8 @@ impl Board {
 }
 
 impl<N: Naming> NamedBoard<N> {
-    /// What the board gives with the root's token, to which all others were joined, as `Board::close` does. Without the memory for it, board
-    /// and token are handed back.
+    /// Closes the board with the root's token, to which all others were joined, as `Board::close` does. If memory runs out, it
+    /// gives back board and token.
     pub fn close(
         self,
         token: NamedToken<N>,

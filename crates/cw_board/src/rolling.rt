@@ -1,6 +1,7 @@
-//! Rollbacks: each access beneath a block is undone in its cell, under the cell's turn, and then the block is closed.
-//! All that a log got since its innermost pending block was begun stands beneath that block, for the strand has stood in it since; and so do
-//! all logs from the first on that was joined from a fork there. So a walk in the order of the logs needs no memory.
+//! Rolls blocks back: undoes each access beneath a block in its cell, with the cell's lock held, and then closes the block. All
+//! that a log got since its innermost pending block was begun lies beneath that block, since the strand has stood in it from then
+//! on. So do all logs from the first one on that was joined from a fork there. A walk in the order of the logs therefore needs no
+//! memory.
 ghost use Rattle.std.specs.Prelude.{◌≡◌, ◌<◌, ℕ, filter, nat_lt, drop, Contains, IfSome};
 ghost use Rattle.cw_tree.specs.declared.node.BlockState.TheVariants.{Aborted};
 ghost use Rattle.cw_tree.specs.AccessStacks.{stamps};
@@ -21,7 +22,7 @@ use cw_steps::{Aim, StrandToken};
 use cw_tree::{Kind, Node};
 use std::sync::Wait;
 
-/// The cell that a node touched, and the stamp of that, where the node is an access.
+/// Returns the cell that a node touched and its stamp, if the node is an access.
 fn touched(node: &Node) -> Option<(u32, u64)> {
     match node.kind {
         Kind::Read { cell, .. } | Kind::Write { cell, .. } => Some((cell, node.stamp)),
@@ -29,8 +30,8 @@ fn touched(node: &Node) -> Option<(u32, u64)> {
     }
 }
 
-/// Takes an access out of its cell, with all that came after it there. It may be gone, where an earlier one was taken out; no rule of the
-/// table says yet that it is there else.
+/// Takes an access out of its cell, with all that came after it there. It may already be gone, taken out with an earlier one. That
+/// it is there otherwise is not proved.
 fn cut(cell: &mut Cell, stamp: u64)
     ensures cut { Contains (stamps (drop cell.old.cleaned cell.old.entries)) stamp → cell.new.entries ≡ filter (λ e. nat_lt e.mark.stamp stamp) cell.old.entries }
     ensures low { (most : ℕ) → IsLowCell most (slot.Cell cell.old) → IsLowCell most (slot.Cell cell.new) }
@@ -42,7 +43,7 @@ fn cut(cell: &mut Cell, stamp: u64)
 }
 
 impl Board {
-    /// Undoes and closes the innermost block that is pending in the token's strand.
+    /// Undoes and closes the innermost pending block of the token's strand.
     pub fn roll<R: Wait>(&self, rt: &R, token: &mut StrandToken)
         requires of { IsOf self.now token.old }
         requires block { HasBlock (token_of token.old) }
@@ -133,8 +134,8 @@ impl Board {
         }
     }
 
-    /// Undoes an access in its cell, with all that came after it there, if there is such an access and such a cell. No rule of the table says
-    /// yet that the cells of a log are there.
+    /// Undoes an access in its cell, with all that came after it there. Does nothing if there is no such access or no such cell: no
+    /// rule of the table says yet that the cells of a log exist.
     fn undo_access<R: Wait>(&self, rt: &R, token: &mut StrandToken, access: Option<(u32, u64)>)
         requires { IsOf self.now token.old }
         ensures of { IsOf self.now token.new }

@@ -8,7 +8,7 @@ use crate::Board;
 use cw_steps::StrandToken;
 
 impl Board {
-    /// From the left strand of an inline fork to its right one, and from there to the strand that forked.
+    /// Moves from the left strand of an inline fork to the right one, or from the right one to the strand that forked.
     pub fn next_branch(&self, token: &mut StrandToken)
         requires of { IsOf self.now token.old }
         requires branch { IsInline (token_of token.old) }
@@ -19,7 +19,7 @@ impl Board {
         token.next_branch();
     }
 
-    /// Lets the right strand of a fork that is not split go on after its left one.
+    /// Lets the right strand of a fork that was not split go on after the left one.
     pub fn take_back(&self, left: &mut StrandToken, right: &mut StrandToken)
         requires of { IsOf self.now left.old × IsOf self.now right.old }
         requires on { IsOn (budget_of self.now) (token_of left.old) × IsOn (budget_of self.now) (token_of right.old) }
@@ -32,7 +32,7 @@ impl Board {
         self.shared.join_seat(right, note);
     }
 
-    /// The strand that forked, with the logs of both.
+    /// Joins the two strands of a fork. Returns the token of the strand that forked, with the logs of both.
     pub fn join(&self, left: StrandToken, right: StrandToken) -> StrandToken
         requires of { IsOf self.now left × IsOf self.now right }
         requires fork { AreOfOneFork (token_of left) (token_of right) }

@@ -1,4 +1,4 @@
-//! Turns, for which a token waits.
+//! Locks (turns of slots) for which a token waits.
 ghost use Rattle.std.specs.Prelude.{◌≡◌, ◌≤◌, Some};
 ghost use Rattle.cw_steps.specs.declared.table.StrandToken.{StrandToken};
 ghost use Rattle.cw_steps.specs.declared.view.Slot.{Slot};
@@ -16,7 +16,7 @@ use std::hint::spin_loop;
 use std::sync::Wait;
 use std::thread::yield_now;
 
-/// After so many tries other threads are let run between them.
+/// After this many tries, a waiting thread yields to others between tries.
 const BUSY_TRIES: u32 = 1_000;
 
 fn pause(tries: u32) -> u32 {
@@ -30,7 +30,7 @@ fn pause(tries: u32) -> u32 {
 }
 
 impl Board {
-    /// Takes the turn of a slot, and what lies there with it, once it is free.
+    /// Waits until the lock of `slot` is free, and acquires it with what lies there.
     pub(crate) fn take_turn<R: Wait>(&self, rt: &R, token: &mut StrandToken, slot: u32, aim: Aim)
         requires table { IsTokenOf self.now.shared token.old }
         requires there { slot ≤ cells_in self.now }
@@ -47,7 +47,7 @@ impl Board {
         unreachable!()
     }
 
-    /// Waits for the tier's turn, beside those that the token has, and takes the tier.
+    /// Waits for the tier's lock, beside those that the token holds, and takes the tier out.
     pub(crate) fn tier_over<R: Wait>(&self, rt: &R, token: &mut StrandToken, aim: Aim) -> Tier
         requires { IsTokenOf self.now.shared token.old }
         ensures held { HasTierOver self.now slot.Empty token.old token.new }
@@ -60,7 +60,7 @@ impl Board {
         self.shared.tier_out(token)
     }
 
-    /// Puts the tier where it lay, which was only looked at, and gives its turn back.
+    /// Puts the tier back unchanged and releases its lock.
     pub(crate) fn tier_back(&self, token: &mut StrandToken, tier: Tier)
         requires held { (t : StrandToken) × (y : Slot) × HasTierOver self.now y t token.old }
         requires tier { HasTier self.now (slot.Tier tier) token.old }

@@ -1,4 +1,4 @@
-//! What stands in the way of an access, and what has to fall for it.
+//! What stands in the way of an access, and which block has to fall for it.
 ghost use Rattle.std.specs.Prelude.{◌≡◌, ◌+◌, ◌<◌, ◌≤◌, Contains, IfSome};
 ghost use Rattle.cw_trace.specs.Columns as columns;
 ghost use Rattle.cw_steps.specs.Leaving.{HasReturned};
@@ -20,14 +20,14 @@ use std::marker::Brand;
 use std::sync::Wait;
 use std::sync::ledger::{Blank, Ledger};
 
-/// What stands in the way of an access: the block that was told, and the one that has to fall, if there is one.
+/// What stands in the way of an access: the block that the query found, and the victim, if there is one.
 #[derive(Clone, Copy, Drop)]
 pub(crate) struct Barrier {
     pub(crate) block: u64,
     pub(crate) victim: Option<Above>,
 }
 
-/// The block at a place of a list, if there is one.
+/// Returns the block at position `k`, if there is one.
 fn block_at(blocks: &[Above], k: usize) -> Option<Above>
     ensures { IfSome result (λ a. Contains blocks.now a) }
 {
@@ -39,7 +39,7 @@ fn block_at(blocks: &[Above], k: usize) -> Option<Above>
 }
 
 impl Board {
-    /// The outermost pending block around the token's place that is not above the access made last.
+    /// Returns the outermost pending block around the token's place that is not above the access `last`.
     fn victim<K: Ledger, L: Ledger>(
         &self,
         tier: &Tier,
@@ -69,7 +69,8 @@ impl Board {
         None
     }
 
-    /// What stands in the way of an access after the one made last, if anything does, by a tier that is out.
+    /// Returns what stands in the way of the token's next access, after the access `last`, by a tier that is out. `None` if nothing
+    /// does.
     fn barrier<K: Ledger, L: Ledger>(
         &self,
         tier: &Tier,
@@ -117,7 +118,8 @@ impl Board {
         found
     }
 
-    /// What stands in the way of an access after the one made last, if anything does. The tier's turn is taken, and given back.
+    /// Returns what stands in the way of the token's next access, after the access `last`, or `None`. Acquires the tier's lock and
+    /// releases it.
     pub(crate) fn judge<R: Wait>(
         &self,
         rt: &R,
@@ -135,7 +137,7 @@ impl Board {
         self.judge_counted::<R, Brand, Brand>(rt, blanks, token, last)
     }
 
-    /// Asks whether the access made last and one that the token makes next conflict. The tier's turn is taken, and given back.
+    /// Asks whether the access `last` and the token's next one conflict. Acquires the tier's lock and releases it.
     pub fn ask<R: Wait, K: Ledger, L: Ledger>(
         &self,
         rt: &R,
