@@ -1,4 +1,4 @@
--- What a strand wants of a cell, what it is given, and what becomes of it where that is refused.
+-- What a strand wants of a cell, what it is given, and what follows a refusal.
 use Rattle.std.specs.Prelude.{◌≡◌, ℕ, ℤ, Option, Some, None}
 use Rattle.cw_strand.specs.declared.want.Want.{Want}
 use Rattle.cw_strand.specs.declared.want.Want.TheVariants.{Load, Store}
@@ -12,7 +12,7 @@ use Rattle.cw_body.specs.Bodies.{InBlocks, gave_up}
 use Rattle.cw_pool.specs.declared.task.Mode.{Mode}
 use Rattle.cw_pool.specs.declared.task.Mode.TheVariants as mode
 
--- it wants to read this cell, or to write that value to it
+-- the strand wants to read this cell, or to write that value to it
 abbrev pub access_want : (cell : ℕ) → Option ℤ → Want
 access_want c None = Load c
 access_want c (Some v) = Store c v
@@ -27,11 +27,12 @@ abbrev pub given_for : Option ℤ → ℤ → Given
 given_for None v = Value v
 given_for (Some w) v = Nothing
 
--- a conflict fells a block around the strand, unless its victim is 0, which is none
+-- the conflict's victim is a block around the strand, unless it is 0, which stands for no victim
 abbrev pub MayFell : Token → Conflict → Type 0
 MayFell x k = ((k.victim ≡ 0 → ⊥) → Fells x k) × (k.victim ≡ 0 → Fells x k → ⊥)
 
--- A strand whose access was refused with this conflict tries again; goes back to the block that has to fall; or stops, where it was the last attempt.
+-- After a refusal with conflict `k`, a strand does one of three things. It tries again; or it goes back to the victim; or it stops,
+-- if that was the last attempt.
 abbrev pub IsAfter : (budget : ℕ) → Conflict → Mode → (x y : Token) → (body next : InBlocks) → Type 0
 IsAfter budget k mode.Goes x y body next = (y ≡ x) × (next ≡ body) × (k.attempt ≡ budget → ⊥) × (Fells x k → ⊥)
 IsAfter budget k (mode.Dies to) x y body next = (y ≡ x) × (next ≡ gave_up body) × (k.attempt ≡ budget → ⊥) × Fells x k × (k.victim ≡ to)

@@ -4,7 +4,7 @@ use Rattle.cw_tree.specs.declared.node.Node.{Node}
 use Rattle.cw_tree.specs.declared.node.Kind.{Kind}
 use Rattle.cw_tree.specs.declared.node.Kind.TheVariants.{Block}
 
--- the begin stamp of the block with this number, where it is one
+-- the begin stamp of the node with this number, if it is a block
 abbrev pub begin_at : List Node → (place : ℕ) → Option ℕ
 begin_at ns place = begin_of (slice_get ns place) where
   stamp_of : Kind → ℕ → Option ℕ

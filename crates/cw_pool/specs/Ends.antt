@@ -1,4 +1,4 @@
--- When what follows a strand may begin, and how the strand that forked stands behind both its strands.
+-- When a strand may end, and how the strand that forked goes on behind both its strands.
 use Rattle.std.specs.Prelude.{◌≡◌, ℕ, min, true, false, List, map, None}
 use Rattle.cw_strand.specs.Strands.{is_over}
 use Rattle.cw_job.specs.Jobs.{Job}
@@ -16,7 +16,7 @@ use Rattle.cw_pool.specs.declared.task.Base.{Base}
 use Rattle.cw_pool.specs.Blocks.{begin_at}
 use Rattle.cw_pool.specs.Tasks.{IsRunning}
 
--- it has come to its end, or goes back and has no block of its own, or was stopped
+-- the strand has come to its end, or goes back and has no block of its own, or was stopped
 abbrev pub MayEnd : Mode → Token → InBlocks → Type 0
 MayEnd mode.Goes x body = is_over (want_of body) ≡ true
 MayEnd (mode.Dies to) x body = begin_at x.own.nodes x.place ≡ None
@@ -30,15 +30,15 @@ dies_beside to mode.Stopped = mode.Stopped
 dies_beside to (mode.Dies other) = mode.Dies (min to other)
 dies_beside to how = mode.Dies to
 
--- How the strand that forked stands, where its strands stand so: it stops if one was stopped; else it goes back, if one died, to the outer one
--- of two victims, which began before the other.
+-- The mode of the strand that forked, given the modes of its two strands. It stops if one of them was stopped. Otherwise, if one
+-- died, it goes back to the victim, to the outer one of two: that began first.
 abbrev pub mode_of_both : (left right : Mode) → Mode
 mode_of_both mode.Stopped right = mode.Stopped
 mode_of_both (mode.Dies to) right = dies_beside to right
 mode_of_both mode.Goes right = right
 mode_of_both mode.Waits right = right
 
--- What the split of a fork parted may be merged, and is, unless a strand was stopped.
+-- what the split of a fork parted may be merged, and is merged, unless a strand was stopped
 abbrev pub IsToMerge : (budget : ℕ) → Mode → Token → (fork : ℕ) → Type 0
 IsToMerge budget mode.Stopped x fork = Unit {0}
 IsToMerge budget how x fork = IsOn budget x × MayMerge x fork
@@ -47,15 +47,15 @@ abbrev pub IsMerged : Mode → (x y : Token) → Type 0
 IsMerged mode.Stopped x y = y ≡ x
 IsMerged how x y = y ≡ merged x
 
--- a right strand at its end, whose body the left one's may be joined to
+-- a right strand at its end, to whose body the left one's may be joined
 pub record MayJoin (job : Job) (right : InBlocks) : Type 0 where
   pub goes : right.stage ≡ stage.Goes
   pub program : right.program ≡ job.program
   pub over : is_over (want_of right) ≡ true
   pub blocks : HasNoBlock right
 
--- With this token, in which the logs of both its strands are, the strand that forked stands so, once its body is made of those of the two: they
--- are joined where both came to their ends, and the right one's gives up where one died.
+-- How the strand that forked goes on with this token, which has the logs of both its strands, once its body is made from theirs. If
+-- both came to their ends, the bodies are joined. If one died, the right one's body gives up.
 abbrev pub IsBehind : {T J : Type 0} → Job → (T → Token) → Mode → Token → (right left : InBlocks) → List (Below T J) → Base T J → Type 0
 IsBehind job of mode.Goes x right left bs b = MayJoin job right × IsRunning job of x (joined_body (strands_of_job job) right left) mode.Goes bs b
 IsBehind job of (mode.Dies to) x right left bs b = (right.stage ≡ stage.Lost → ⊥) × IsRunning job of x (gave_up right) (mode.Dies to) bs b
@@ -64,8 +64,8 @@ IsBehind job of mode.Waits x right left bs b = ⊥
 
 -- ## The end of a run
 
--- The logs of the root's token are what the strands of what is run did, from main on, each once and no others. They went to its end, or stopped
--- as its halt tells, unless it was told of a halt that none of its logs has.
+-- The logs of the root's token are what the strands of the job did, from main on: each strand once, and no others. They went to the
+-- job's end, or stopped as the token's halt tells, unless the token was told of a halt that none of its logs has.
 pub record IsWorked (job : Job) (x : Token) : Type 0 where
   pub course : Course
   pub written : map bare_log (logs x) ≡ logs_of course 0 0 0

@@ -1,4 +1,4 @@
--- A strand between the fork of its body and that on the board.
+-- A strand between the fork of its body and the fork on the board.
 use Rattle.std.specs.Prelude.{◌≡◌, ℕ, List}
 use Rattle.cw_strand.specs.declared.want.Want.TheVariants as want
 use Rattle.cw_job.specs.Jobs.{Job}
@@ -13,14 +13,14 @@ use Rattle.cw_pool.specs.declared.task.Base.{Base}
 use Rattle.cw_pool.specs.Tasks.{IsRunning}
 
 module _ {T J : Type 0} (job : Job) (of : T → Token) where
-  -- Its body was this one, which wanted to fork, and is these two now, the left strand's and the right one's.
+  -- Its body was `body`, which wanted to fork, and is now two: `l` of the left strand and `r` of the right one.
   pub record IsForking (x : Token) (body l r : InBlocks) (bs : List (Below T J)) (b : Base T J) : Type 0 where
     pub task : IsRunning job of x body mode.Goes bs b
     pub wants : (strands_of_job job).want body.state ≡ want.Fork
     pub left : l ≡ bodies.left_of (strands_of_job job) body
     pub right : r ≡ bodies.right_of (strands_of_job job) body
 
-  -- and the board has made two tokens of its own, of a fork with this number
+  -- then the board made two tokens, of the fork with the number `fork`
   abbrev pub AreForkTokens : (y z : Token) (fork : ℕ) (body left right : InBlocks) (bs : List (Below T J)) (b : Base T J) → Type 0
   AreForkTokens y z fork body left right bs b =
       (x : Token) × IsForking x body left right bs b × ((stamp : ℕ) × (y ≡ forked x stamp fork)) × ((column : ℕ) × (z ≡ right_of x fork column))

@@ -12,7 +12,7 @@ use Rattle.cw_record.specs.Records.{job_of_record, BlocksEnded, HasEnded, IsCohe
 use Rattle.cw_course.specs.Closings.{AreWorked, IsClosing, IsPutTogether}
 use Rattle.cw_board.specs.Boards.{AreOfCells}
 
--- A run of one worker is refused nothing, and its record is coherent and goes depth first.
+-- A run of one worker has no refusals. Its record is coherent and goes depth first.
 pub record IsOfOneWorker (r : Record) : Type 0 where
   pub conflicts : r.conflicts ≡ []
   pub ended : HasEnded r.end
@@ -21,8 +21,9 @@ pub record IsOfOneWorker (r : Record) : Type 0 where
   pub replays : IsReplayed r
   pub blocks : BlocksEnded r.tree r.end
 
--- The record of a run on a board is that of a tree and conflicts put together of logs that, but for their conflicts, are what the strands of
--- this program did, from main on, each once and no others, to its end or to this halt, and of one journal for each cell. Where that is what a board owes, it is coherent.
+-- The record of a run on a board is put together of logs and of one journal for each cell. Apart from their conflicts, the logs are
+-- what the strands of the program did, from main on: each strand once, and no others, to its end or to the record's halt. If what
+-- was closed is what a closed board owes (`IsClosing`), the record is coherent.
 pub record IsOfBoard (r : Record) : Type 0 where
   pub logs : List Log
   pub stop : Option Stop

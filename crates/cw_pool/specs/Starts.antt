@@ -1,4 +1,4 @@
--- Any run, for whoever picks none.
+-- A default job, for type parameters that nobody chose.
 use Rattle.std.proofs.Common.{refl, arith}
 use Rattle.std.specs.Prelude.{[], ◌∷◌, pos}
 use Rattle.cw_code.specs.declared.program.Program.{Program}
@@ -16,6 +16,6 @@ idle = record {
   whole = ∣ record { main_there = omega arith; numbered = refl } ∣₁;
 }
 
--- any run: each picks its own
+-- any job; each run picks its own
 abbrev pub no_job : Job
 no_job = bare_job idle

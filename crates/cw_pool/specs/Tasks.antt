@@ -31,7 +31,7 @@ use Rattle.cw_pool.specs.declared.task.Below.TheVariants as below
 use Rattle.cw_pool.specs.declared.task.Base.{Base}
 use Rattle.cw_pool.specs.declared.task.Base.TheVariants as base
 
--- what is run: a program that was compiled, whose code has no cancel, with as many words as its main has parameters
+-- What may be run: a compiled program whose code has no cancel, with one word for each parameter of main.
 pub record IsRun (job : Job) : Type 0 where
   pub compiled : IsCompiled job.program
   pub cancels : cancels job.program.code ≡ false
@@ -39,8 +39,9 @@ pub record IsRun (job : Job) : Type 0 where
 
 -- ## Logs
 
--- With what the log of a token begins: its strand; the begins of the pending blocks around that, seen from it, and their stamps, the innermost
--- first; its column, and the column and the node from which it hangs; the fork as whose right strand it began, and whether that was split.
+-- What the log of a token begins with. First its strand. Then the begins of the pending blocks around that, as seen from it, and
+-- their stamps, innermost first. Then its column, and the column and node from which it hangs. Last the fork as whose right strand
+-- it began, and whether that fork was split.
 pub record Start : Type 0 where
   pub state : StrandState
   pub begins : List PendingBegin
@@ -51,21 +52,21 @@ pub record Start : Type 0 where
   pub fork : ℕ
   pub split : Bool
 
--- the begins of the pending blocks around the strand that runs, seen from it, where the log began with these around
+-- the begins of the pending blocks around the strand that runs, as seen from it, if the log began with `bs` around it
 abbrev pub begins_in : Trail StrandState → List PendingBegin → List PendingBegin
 begins_in opens bs = bs
 begins_in (in_block t cs b stamp) bs = record { at = b; forks = 0 } ∷ begins_in t bs
 begins_in (in_left t cs b column stamp) bs = []
 begins_in (in_right t cs b stamp ls l) bs = map one_fork_more (begins_in t bs)
 
--- the stamps of all pending blocks around it, also those around a left strand
+-- the stamps of all pending blocks around the strand, including those around a left strand
 abbrev pub stamps_in : Trail StrandState → List ℕ → List ℕ
 stamps_in opens above = above
 stamps_in (in_block t cs b stamp) above = stamp ∷ stamps_in t above
 stamps_in (in_left t cs b column stamp) above = stamps_in t above
 stamps_in (in_right t cs b stamp ls l) above = stamps_in t above
 
--- the logs of right strands that were joined in what is open
+-- the logs of right strands that were joined within what is open
 abbrev pub rights_to : Trail StrandState → (column : ℕ) → List Log
 rights_to opens column = []
 rights_to (in_block t cs b stamp) column = rights_to t column ++ rights cs column (length (page t).nodes)
@@ -73,16 +74,16 @@ rights_to (in_left t cs b other stamp) column = rights_to t column ++ rights cs 
 rights_to (in_right t cs b stamp ls l) column =
     rights_to t column ++ (rights cs column (length (page t).nodes) ++ rights ls column (length (page (in_left t cs b None stamp)).nodes))
 
--- and in the course behind it
+-- the same, and those joined in the course behind it
 abbrev pub rights_of : Trail StrandState → Course → (column : ℕ) → List Log
 rights_of t cs column = rights_to t column ++ rights cs column (length (page t).nodes)
 
--- each stamp exceeds 0, and all behind it
+-- each stamp exceeds 0, and all stamps behind it
 abbrev pub AreFalling : List ℕ → Type 0
 AreFalling [] = Unit {0}
 AreFalling (b ∷ bs) = (0 < b) × All (λ c. c < b) bs × AreFalling bs
 
--- What is written in a token: a log that began so, with what is open in it, and a course behind that.
+-- What is written in a token: a log that began with `a`, in which `t` is open, and the course `cs` behind that.
 pub record Fits (x : Token) (a : Start) (t : Trail StrandState) (cs : Course) : Type 0 where
   pub own : bare_log x.own ≡ record { column = a.column; from = a.from; fork = a.at; nodes = nodes_of t cs; conflicts = [] }
   pub joined : map bare_log x.joined ≡ rights_of t cs a.column
@@ -95,15 +96,15 @@ pub record Fits (x : Token) (a : Start) (t : Trail StrandState) (cs : Course) : 
 
 -- ## How a strand stands
 
--- where it is a fault that stopped a log or one joined to it, that is in this course
+-- if a fault stopped this log or one joined to it, the fault is in this course
 abbrev pub HasFault : Option Stop → Course → (column strand base : ℕ) → Type 0
 HasFault stop cs column strand base = (x : Stop) (y : ℕ) (kind : FaultKind) → stop ≡ Some x → x.halt ≡ Fault y kind → FaultsIn kind x.column x.strand cs column strand base
 
--- it may come to this state, with no block of its own begun
+-- the strand may reach this state, with no block of its own begun
 abbrev pub IsReached : {A : Type 0} → Strands A → A → Type 0
 IsReached s a = (outer : List ℕ) × Reached s (0 ∷ outer) a
 
--- a begin, seen from so many forks further in
+-- a begin as seen from `k` forks further in
 abbrev pub seen_in : ℕ → PendingBegin → PendingBegin
 seen_in k p = record { at = p.at; forks = p.forks + k }
 
@@ -112,7 +113,7 @@ module _ (job : Job) where
   abbrev pub goes_in : StrandState → List PendingBegin → InBlocks
   goes_in a begins = record { program = job.program; stage = stage.Goes; state = a; begins = begins }
 
-  -- what its conflicts are to a strand that goes on: none has the last attempt, none a block around for its victim
+  -- what conflicts are to a strand that goes on: none is from the last attempt, and no victim is a block around it
   pub record IsFree (x : Token) : Type 0 where
     pub on : IsOn job.limits.aborts x
     pub none : All (λ c. Fells x c → ⊥) (conflicts_in (logs x))
@@ -132,7 +133,7 @@ module _ (job : Job) where
     pub free : IsFree x
     pub phase : x.phase ≡ Waiting
 
-  -- it goes back to the block with this begin stamp, the outermost victim
+  -- it goes back to the block with the begin stamp `to`, the outermost victim
   pub record StandsDying (to : ℕ) (x : Token) (body : InBlocks) (a : Start) (t : Trail StrandState) (cs : Course) : Type 0 where
     pub stopped : Stopped (strands_of_job job) a.state t cs
     pub program : body.program ≡ job.program
@@ -148,7 +149,7 @@ module _ (job : Job) where
     pub victim : conflict.victim ≡ to
     pub outermost : All (λ c. Fells x c → to ≤ c.victim) (conflicts_in (logs x))
 
-  -- its body may stand nowhere
+  -- it stopped; its body may be lost
   pub record StandsStopped (x : Token) (a : Start) (t : Trail StrandState) (cs : Course) : Type 0 where
     pub stopped : Stopped (strands_of_job job) a.state t cs
     pub off : IsOff x
@@ -162,7 +163,7 @@ module _ (job : Job) where
 
 -- ## What waits
 
--- the right strand's log of a fork with this number, where the left one's stands in this trail behind this course
+-- the beginning of the right strand's log, for a fork that was made behind the course `cs` in this trail
 abbrev pub beside : Strands StrandState → Start → Trail StrandState → Course → StrandState → (column fork : ℕ) → Start
 beside s a t cs b column fork = record {
   state = s.right b;
@@ -180,7 +181,7 @@ abbrev pub opened : Side → Start → Trail StrandState → Open
 opened side a t = record { side = side; strand = strand_in t; place = place_of t; around = stamps_in t a.above }
 
 module _ {T : Type 0} (job : Job) (of : T → Token) where
-  -- what a memo says of the right strand's log
+  -- what a memo tells of the right strand's log
   abbrev pub told_by : Memo T → Start
   told_by m =
       let right = of m.right.value in
@@ -195,11 +196,11 @@ module _ {T : Type 0} (job : Job) (of : T → Token) where
         split = false;
       }
 
-  -- the half of a fork whose right strand's log begins so
+  -- the half of a fork whose right strand's log begins with `a`
   abbrev pub IsHalf : Note (Memo T) → Start → Type 0
   IsHalf half a = (m : Memo T) × (half.of ≡ Some m) × (told_by m ≡ a)
 
-  -- A left strand that came to its end and whose right one was taken back: its token, and its body.
+  -- A left strand that came to its end and whose right one was taken back: its token and its body.
   pub record IsTaken (tok : T) (left : InBlocks) (a : Start) (t : Trail StrandState) (cs ls : Course) (b : StrandState) (column stamp : ℕ) : Type 0 where
     pub reached : IsReached (strands_of_job job) a.state
     pub fits : Fits (of tok) a (in_left t cs b (Some column) stamp) ls
@@ -209,7 +210,8 @@ module _ {T : Type 0} (job : Job) (of : T → Token) where
     pub phase : (of tok).phase ≡ Over
 
 module _ {T J : Type 0} (job : Job) (of : T → Token) where
-  -- where the lowest log of a task comes from: it is that of main, or of the right strand of a fork that was split, unless it stopped before
+  -- The base of a task's lowest log: main, or the right strand of a fork. That fork was split if the strand goes or dies, and not
+  -- if it waits.
   abbrev pub IsBase : Base T J → Mode → Start → Type 0
   IsBase base.Root how a = a ≡ record { state = (strands_of_job job).start; begins = []; above = []; column = 0; from = 0; at = 0; fork = 0; split = false }
   IsBase (base.Right fork half) how a = IsHalf job of half (record a { split = false }) × (a.fork ≡ fork) × IsSplit how where
@@ -218,7 +220,8 @@ module _ {T J : Type 0} (job : Job) (of : T → Token) where
     IsSplit mode.Waits = a.split ≡ false
     IsSplit how = a.split ≡ true
 
-  -- The entries of a stack, the newest first, are what waits in this log, with these forks open, and in those below, down to the lowest one.
+  -- The entries of a stack, newest first, are what waits in this log, in which these forks are open, and in the logs below it down
+  -- to the lowest one.
   pub data AreWaitingBelow (lowest : Start) : Start → Trail StrandState → List Open → List (Below T J) → Type 0 where
     bottom : AreWaitingBelow lowest lowest opens [] []
     block : {a : Start} {t : Trail StrandState} {os : List Open} {bs : List (Below T J)} {cs : Course} {b : StrandState} {stamp : ℕ}

@@ -13,7 +13,7 @@ use cw_strand::{Given, Want};
 use cw_tree::{Conflict, Halt};
 use std::sync::Wait;
 
-/// The cell that it wants to read or write, and the value that is to be written.
+/// Returns the cell that the strand wants to read or write, and the value to write.
 fn access_of(want: Want) -> Option<(u32, Option<i64>)>
     ensures { MatchOption result (WantsNone want) (λ p. want ≡ access_want p.0 p.1) }
 {
@@ -33,7 +33,7 @@ fn given_for(write: Option<i64>, value: i64) -> Given
     }
 }
 
-/// How a strand stands after this conflict, which its token has.
+/// Returns the mode of a strand after `conflict`, which is in its token's log.
 fn refused<B: SharedBoard, J: Naming>(
     scene: &Scene<'_, B, J>,
     token: &mut B::Token,
@@ -58,7 +58,7 @@ fn refused<B: SharedBoard, J: Naming>(
     }
 }
 
-/// The strand reads or writes a cell, or is refused.
+/// Reads or writes a cell for the strand, or has the access refused.
 pub(crate) fn accesses<B: SharedBoard, J: Naming, R: Wait>(
     rt: &R,
     scene: &Scene<'_, B, J>,

@@ -9,7 +9,7 @@ use cw_strand::Want;
 use cw_tree::{Halt, Kind, Node};
 use std::sync::Wait;
 
-/// The strand begins a block.
+/// Begins a block for the strand.
 pub(crate) fn begins<B: SharedBoard, J: Naming>(scene: &Scene<'_, B, J>, now: &mut Running<B, J>) {
     let Mode::Goes = now.mode else {
         return;
@@ -32,7 +32,7 @@ pub(crate) fn begins<B: SharedBoard, J: Naming>(scene: &Scene<'_, B, J>, now: &m
     }
 }
 
-/// The strand ends its innermost block.
+/// Ends the strand's innermost block.
 pub(crate) fn ends<B: SharedBoard, J: Naming>(scene: &Scene<'_, B, J>, now: &mut Running<B, J>) {
     let Mode::Goes = now.mode else {
         return;
@@ -50,7 +50,7 @@ pub(crate) fn ends<B: SharedBoard, J: Naming>(scene: &Scene<'_, B, J>, now: &mut
     }
 }
 
-/// The begin stamp of the block with this number, where it is one.
+/// Returns the begin stamp of the node with the number `place`, if it is a block.
 pub(crate) fn begin_at(nodes: &[Node], place: u32) -> Option<u64>
     ensures { result ≡ begin_at nodes.now place }
 {
@@ -63,7 +63,8 @@ pub(crate) fn begin_at(nodes: &[Node], place: u32) -> Option<u64>
     }
 }
 
-/// A strand that goes back rolls its innermost block back. Where that is the one to which it goes, it stands at its begin.
+/// Rolls back the innermost block of a strand that goes back. If that is the block to which it goes, the strand then stands at its
+/// begin.
 pub(crate) fn rolls<B: SharedBoard, J: Naming, R: Wait>(
     rt: &R,
     scene: &Scene<'_, B, J>,

@@ -1,5 +1,5 @@
-//! Boxes of tasks. Deques, lists and frames hold tasks in boxes; a task keeps the one in which it came while it runs, so that nothing has to
-//! be found for it where it is left.
+//! Boxes of tasks. Deques, lists and frames hold tasks in boxes. A running task keeps the box in which it came, so that it can be
+//! left anywhere without taking memory.
 ghost use Rattle.std.specs.Prelude.{◌<◌, OnOk};
 ghost use Rattle.std.specs.Vec.{vec_len, vec_capacity};
 
@@ -9,7 +9,7 @@ use cw_deck::{Deck, Thief};
 use cw_log::SharedBoard;
 use std::alloc::Global;
 
-/// So many empty boxes are kept for later.
+/// The most empty boxes that a worker keeps for later.
 const SPARE: usize = 64;
 
 /// Room for a task.
@@ -20,7 +20,7 @@ pub(crate) struct Room<B: SharedBoard, J: Naming> {
 
 pub(crate) type TaskBox<B, J> = Box<Room<B, J>>;
 
-/// A task that a worker has taken up, and the box in which it came.
+/// A task that a worker runs, and the box in which it came.
 #[derive(Drop)]
 pub(crate) struct Task<B: SharedBoard, J: Naming> {
     pub(crate) home: TaskBox<B, J>,
@@ -33,7 +33,7 @@ pub(crate) fn empty_box<B: SharedBoard, J: Naming>(
     Ok(Box::new(alloc, Room { task: None })?)
 }
 
-/// The task that is in a box.
+/// Takes the task out of its box.
 pub(crate) fn taken_up<B: SharedBoard, J: Naming>(full: TaskBox<B, J>) -> Option<Task<B, J>> {
     let mut home = full;
     let room: &mut Room<B, J> = &mut home;
@@ -41,7 +41,7 @@ pub(crate) fn taken_up<B: SharedBoard, J: Naming>(full: TaskBox<B, J>) -> Option
     Some(Task { home, now })
 }
 
-/// A box with this task in it.
+/// Packs a task into its box.
 pub(crate) fn packed<B: SharedBoard, J: Naming>(task: Task<B, J>) -> TaskBox<B, J> {
     let Task { mut home, now } = task;
     let room: &mut Room<B, J> = &mut home;
@@ -49,7 +49,8 @@ pub(crate) fn packed<B: SharedBoard, J: Naming>(task: Task<B, J>) -> TaskBox<B, 
     home
 }
 
-/// The boxes of a worker: those in its own end of its deque; those that the deque could not take, the newest last; and empty ones.
+/// The boxes of a worker: `deck` holds its own end of its deque, `kept` the tasks that the deque could not take, newest last, and
+/// `spare` empty boxes.
 #[derive(Drop)]
 pub(crate) struct Boxes<B: SharedBoard, J: Naming> {
     deck: Deck<TaskBox<B, J>>,
@@ -70,7 +71,7 @@ impl<B: SharedBoard, J: Naming> Boxes<B, J> {
         self.deck.thief()
     }
 
-    /// An empty box, with room for it in the list.
+    /// Returns an empty box, and makes room for it in the list `kept`.
     pub(crate) fn room(&mut self, alloc: Global) -> Result<TaskBox<B, J>, OutOfMemory>
         ensures { OnOk result (vec_len self.new.kept < vec_capacity self.new.kept) }
     {
@@ -81,7 +82,8 @@ impl<B: SharedBoard, J: Naming> Boxes<B, J> {
         }
     }
 
-    /// A task waits here: in the deque, or where that takes none, in the list. No thief looks there, so later ones go there, too.
+    /// Lets a task wait here: in the deque, or in the list `kept` if the deque cannot take it. No thief looks into that list, so
+    /// while it has tasks, later ones go there, too.
     pub(crate) fn keeps(&mut self, task: Task<B, J>)
         requires { vec_len self.old.kept < vec_capacity self.old.kept }
     {
@@ -96,7 +98,7 @@ impl<B: SharedBoard, J: Naming> Boxes<B, J> {
         }
     }
 
-    /// The newest task that waits here.
+    /// Removes and returns the newest task that waits here.
     pub(crate) fn newest(&mut self) -> Option<Task<B, J>> {
         match self.kept.pop() {
             Some(full) => taken_up(full),
@@ -104,7 +106,7 @@ impl<B: SharedBoard, J: Naming> Boxes<B, J> {
         }
     }
 
-    /// A box that is to be used again.
+    /// Keeps an empty box for later use.
     pub(crate) fn spares(&mut self, empty: TaskBox<B, J>) {
         if self.spare.len() < SPARE && self.spare.reserve(1).is_ok() {
             self.spare.push_reserved(empty);

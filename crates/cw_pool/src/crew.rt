@@ -17,7 +17,7 @@ use std::{mem, thread};
 
 pub(crate) type Crew<B, J> = Vec<Worker<B, J>>;
 
-/// So many workers, each with numbers of its own for its forks. None knows another yet.
+/// Makes `workers` workers, each with pair numbers of its own for its forks. They cannot steal yet.
 fn strangers<B: SharedBoard, J: Naming>(
     alloc: Global,
     workers: u32,
@@ -46,7 +46,7 @@ fn thief_of<B: SharedBoard, J: Naming>(
     boxes.thief()
 }
 
-/// Each worker may take from all others, from the next one first.
+/// Gives each worker a thief of every other one, the next worker's first.
 fn acquaints<B: SharedBoard, J: Naming>(crew: &mut [Worker<B, J>]) -> Result<(), OutOfMemory> {
     let count = crew.len();
     for mine in 0..count {
@@ -59,7 +59,7 @@ fn acquaints<B: SharedBoard, J: Naming>(crew: &mut [Worker<B, J>]) -> Result<(),
     Ok(())
 }
 
-/// So many workers, each of which may take from all others.
+/// Makes `workers` workers, each of which may steal from all others.
 pub(crate) fn crew_of<B: SharedBoard, J: Naming>(
     alloc: Global,
     workers: u32,
@@ -71,7 +71,8 @@ pub(crate) fn crew_of<B: SharedBoard, J: Naming>(
     Ok(crew)
 }
 
-/// All work till the run is over, the first one on the caller's thread. One that could not be started is missing.
+/// Runs all workers until the run is over, the first one on the caller's thread. A worker whose thread could not be started is
+/// missing.
 pub(crate) fn all_work<B: SharedBoard, J: Naming, G: Gate, R: Threads + Wait + Sync>(
     rt: &R,
     common: &Common<'_, B, J, G>,

@@ -1,4 +1,4 @@
-//! What follows a strand that has come to its end, has died or was stopped, in its own task.
+//! What follows, within its own task, a strand that is over: it came to its end, died or was stopped.
 ghost use Rattle.std.specs.Prelude.{◌≡◌, ◌<◌, ◌++◌, ◌∷◌, [], IsTrue};
 ghost use Rattle.std.specs.Vec.{vec_len, vec_capacity};
 ghost use Rattle.cw_pool.specs.Ends.{IsBehind, MayEnd};
@@ -14,20 +14,20 @@ use cw_log::SharedBoard;
 use cw_strand::Want;
 use cw_tree::Halt;
 
-/// What follows a strand that has come to its end, has died or was stopped.
+/// What follows a strand that is over: it came to its end, died or was stopped.
 #[derive(Drop)]
 pub(crate) enum After<B: SharedBoard, J: Naming> {
     /// Another strand of the same task goes on.
     Goes(Running<B, J>),
-    /// It is the left strand of a fork whose right one is a task: that is to be looked for.
+    /// A left strand ended. The caller must now find the right one: it waits in this worker's deque, or was stolen.
     Left(Running<B, J>),
-    /// It is the right strand of a stolen fork, and nothing waits in its task: it goes to where both meet.
+    /// The right strand of a stolen fork ended, and nothing waits in its task. It goes to where both strands meet.
     Right(Running<B, J>),
-    /// It was main's.
+    /// Main's strand ended.
     Ended(Ended<B, J>),
 }
 
-/// Whether a strand has come to its end, has died or was stopped.
+/// Whether a strand is over: it came to its end, died or was stopped.
 pub(crate) fn may_end<B: SharedBoard, J: Naming>(
     scene: &Scene<'_, B, J>,
     token: &B::Token,
@@ -46,7 +46,7 @@ pub(crate) fn may_end<B: SharedBoard, J: Naming>(
     }
 }
 
-/// The strand that forked, with its token, however both its strands ended: the right one's body becomes its own.
+/// Makes the task of the strand that forked, behind both its strands. The right strand's body becomes its own.
 pub(crate) fn behind<B: SharedBoard, J: Naming>(
     scene: &Scene<'_, B, J>,
     token: B::Token,
@@ -77,7 +77,8 @@ pub(crate) fn behind<B: SharedBoard, J: Naming>(
     }
 }
 
-/// After the left strand of an inline fork: its right one, or, where the left one died or was stopped, the strand that forked.
+/// After the left strand of an inline fork: goes on with the right one or, if the left one died or was stopped, with the strand
+/// that forked.
 fn turned<B: SharedBoard, J: Naming>(
     scene: &Scene<'_, B, J>,
     token: B::Token,
@@ -102,7 +103,7 @@ fn turned<B: SharedBoard, J: Naming>(
     task_of(token, right, Mode::Goes, below, base)
 }
 
-/// After the right strand of an inline fork: the strand that forked.
+/// After the right strand of an inline fork: goes on with the strand that forked.
 fn second<B: SharedBoard, J: Naming>(
     scene: &Scene<'_, B, J>,
     token: B::Token,
@@ -120,7 +121,7 @@ fn second<B: SharedBoard, J: Naming>(
     behind(scene, token, body, mode, below, base, left)
 }
 
-/// After the right strand of a fork that was taken back: the strand that forked.
+/// After the right strand of a fork that was taken back: goes on with the strand that forked.
 fn taken<B: SharedBoard, J: Naming>(
     scene: &Scene<'_, B, J>,
     token: B::Token,
@@ -159,7 +160,7 @@ fn lowest<B: SharedBoard, J: Naming>(
     }
 }
 
-/// What follows a strand that has ended. Where it may not end yet it is given back as it is.
+/// Returns what follows a strand that is over. A strand that may not end yet is given back unchanged.
 pub(crate) fn ends<B: SharedBoard, J: Naming>(
     scene: &Scene<'_, B, J>,
     now: Running<B, J>,

@@ -14,7 +14,7 @@ use std::marker::PhantomData;
 use std::snapshot::Snapshot;
 use std::sync::Wait;
 
-/// The strand forks, and goes on in its left strand. Where the right one has a token of its own it is the second answer.
+/// Forks a strand, and goes on with its left strand. If the right strand has a token of its own, its task is returned second.
 pub(crate) fn forks<B: SharedBoard, J: Naming, R: Wait>(
     rt: &R,
     scene: &Scene<'_, B, J>,
@@ -52,7 +52,7 @@ pub(crate) fn forks<B: SharedBoard, J: Naming, R: Wait>(
     parts(rt, scene, source, token, before, left, right, below, base)
 }
 
-/// The strand whose body has forked forks on the board, too.
+/// Forks on the board a strand whose body has forked.
 fn parts<B: SharedBoard, J: Naming, R: Wait>(
     rt: &R,
     scene: &Scene<'_, B, J>,
@@ -107,7 +107,8 @@ fn parts<B: SharedBoard, J: Naming, R: Wait>(
     }
 }
 
-/// Both strands of a fork with two tokens, each with its half of what ties them: the left one goes on, the right one waits.
+/// Makes the tasks of both strands of a fork with two tokens, each with its half of the pair: the left one goes on, the right one
+/// waits.
 fn apart<B: SharedBoard, J: Naming>(
     scene: &Scene<'_, B, J>,
     source: &mut Source<Memo<B::Token>, J>,

@@ -6,10 +6,10 @@ use cw_log::SharedBoard;
 use std::alloc::Global;
 use std::sync::{Mutex, OnceLock, Wait};
 
-/// So many frames are made at once.
+/// The number of frames that are made at once.
 const ROW: u64 = 1024;
 
-/// The task of the strand that came first lies here.
+/// Holds the task of the strand that came first.
 pub(crate) type Frame<B, J> = Mutex<Option<TaskBox<B, J>>>;
 
 #[derive(Drop)]
@@ -33,7 +33,7 @@ fn fresh_row<B: SharedBoard, J: Naming>(alloc: Global) -> Result<Row<B, J>, OutO
 }
 
 impl<B: SharedBoard, J: Naming> Frames<B, J> {
-    /// For so many forks. No frame is made yet.
+    /// Makes the list for `forks` forks. No frame is made yet.
     pub(crate) fn new(alloc: Global, forks: u32) -> Result<Frames<B, J>, OutOfMemory> {
         let mut rows = Vec::new(alloc);
         for _ in 0..u64::from(forks) / ROW + 1 {
@@ -42,7 +42,7 @@ impl<B: SharedBoard, J: Naming> Frames<B, J> {
         Ok(Frames { rows })
     }
 
-    /// Makes the frame with this count, where it is not there yet.
+    /// Makes the frame with this count, if it does not exist yet.
     pub(crate) fn make<R: Wait>(
         &self,
         rt: &R,
@@ -60,14 +60,14 @@ impl<B: SharedBoard, J: Naming> Frames<B, J> {
         Ok(())
     }
 
-    /// The frame with this count, where it was made.
+    /// Returns the frame with this count, if it was made.
     pub(crate) fn at(&self, count: u64) -> Option<&Frame<B, J>> {
         let row = self.rows.get((count / ROW) as usize)?.get()?;
         row.frames.get((count % ROW) as usize)
     }
 }
 
-/// The task that lies in a frame, together with this one; or where none does, this one is left there.
+/// Returns `mine` and the task that lies in the frame. If none lies there, leaves `mine` there.
 pub(crate) fn meet<B: SharedBoard, J: Naming, R: Wait>(
     rt: &R,
     frame: &Frame<B, J>,

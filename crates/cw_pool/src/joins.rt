@@ -1,4 +1,4 @@
-//! Where the two strands of a fork that has two tokens come together.
+//! Where the two strands of a fork with two tokens come together.
 ghost use Rattle.std.specs.Prelude.{◌≡◌};
 ghost use Rattle.cw_pool.specs.Ends.{IsMerged, IsToMerge, mode_of_both};
 
@@ -8,7 +8,7 @@ use crate::{Below, Mode, Naming, Running, Scene};
 use cw_log::SharedBoard;
 use std::sync::Wait;
 
-/// How the strand that forked stands, whose strands stand so.
+/// The mode of the strand that forked, given the modes of its two strands.
 fn both(left: Mode, right: Mode) -> Mode
     ensures { result ≡ mode_of_both left right }
 {
@@ -23,7 +23,7 @@ fn both(left: Mode, right: Mode) -> Mode
     }
 }
 
-/// What the split of a fork parted is merged, unless a strand was stopped.
+/// Merges what the split of a fork parted, unless a strand was stopped.
 fn merges<B: SharedBoard, J: Naming, R: Wait>(
     rt: &R,
     scene: &Scene<'_, B, J>,
@@ -44,8 +44,8 @@ fn merges<B: SharedBoard, J: Naming, R: Wait>(
     }
 }
 
-/// A right strand that was not started by another worker goes on after its left one; or both are joined, where the left one died or was stopped.
-/// Both are given back where they are not of one fork, or do not stand so.
+/// Lets a right strand that no worker stole go on after its left one; if the left one died or was stopped, joins both. Gives both
+/// back if they are not of one fork, or the right one does not wait, or the left one is not over.
 pub(crate) fn takes_back_task<B: SharedBoard, J: Naming>(
     scene: &Scene<'_, B, J>,
     left: Running<B, J>,
@@ -83,8 +83,8 @@ pub(crate) fn takes_back_task<B: SharedBoard, J: Naming>(
     Ok(task_of(other, body, Mode::Goes, below, base))
 }
 
-/// Both strands of a fork have ended, each in a task of its own: the strand that forked. Both are given back where they are not of one fork, or
-/// have not ended.
+/// Joins the two strands of a fork, each of which ended in a task of its own. Returns the task of the strand that forked. Gives
+/// both back if they are not of one fork, or have not ended.
 pub(crate) fn meets<B: SharedBoard, J: Naming, R: Wait>(
     rt: &R,
     scene: &Scene<'_, B, J>,

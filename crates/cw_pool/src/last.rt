@@ -10,11 +10,11 @@ use cw_body::Body;
 use cw_log::SharedBoard;
 use std::marker::{Model, PhantomData};
 
-/// The root's token, with all others joined.
+/// The root's token, to which all others were joined.
 #[derive(Drop)]
 pub struct Ended<B: SharedBoard, J: Naming> {
     pub(crate) token: B::Token,
-    /// Main came to its end.
+    /// Whether main came to its end.
     pub(crate) is_whole: bool,
     pub(crate) of: PhantomData<J>,
 }
@@ -39,7 +39,7 @@ fn goes(mode: Mode) -> bool
     }
 }
 
-/// After the strand of main.
+/// Ends the run after the strand of main.
 pub(crate) fn ends_run<B: SharedBoard, J: Naming>(
     token: B::Token,
     body: Body,

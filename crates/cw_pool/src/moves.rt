@@ -4,7 +4,7 @@ use cw_log::SharedBoard;
 use cw_strand::{Given, Want};
 use cw_tree::Halt;
 
-/// Looks whether the run was stopped.
+/// Stops the strand if the run has been halted.
 pub(crate) fn looks<B: SharedBoard, J: Naming>(scene: &Scene<'_, B, J>, now: &mut Running<B, J>) {
     match scene.board.halted(&mut now.token) {
         true => {
@@ -14,7 +14,7 @@ pub(crate) fn looks<B: SharedBoard, J: Naming>(scene: &Scene<'_, B, J>, now: &mu
     }
 }
 
-/// Want of memory stops the strand.
+/// Stops a strand that ran out of memory.
 pub(crate) fn halts<B: SharedBoard, J: Naming>(scene: &Scene<'_, B, J>, now: &mut Running<B, J>) {
     let Mode::Goes = now.mode else {
         return;
@@ -23,7 +23,7 @@ pub(crate) fn halts<B: SharedBoard, J: Naming>(scene: &Scene<'_, B, J>, now: &mu
     now.mode = Mode::Stopped;
 }
 
-/// The strand puts a value out.
+/// Outputs a value for the strand.
 pub(crate) fn puts_out<B: SharedBoard, J: Naming>(
     scene: &Scene<'_, B, J>,
     now: &mut Running<B, J>,
@@ -46,7 +46,7 @@ pub(crate) fn puts_out<B: SharedBoard, J: Naming>(
     }
 }
 
-/// The strand stands at a fault: it stops.
+/// Stops a strand that stands at a fault.
 pub(crate) fn faults<B: SharedBoard, J: Naming>(scene: &Scene<'_, B, J>, now: &mut Running<B, J>) {
     let Mode::Goes = now.mode else {
         return;

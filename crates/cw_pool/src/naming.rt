@@ -1,6 +1,6 @@
 use std::marker::Brand;
 
-/// Which run this is: what is run, and the table on which its pairs stand. Each run picks it.
+/// Names a run: its job, and the table of its pairs. Each run picks it.
 pub trait Naming: cw_pair::Naming {
     ghost use Rattle.cw_job.specs.Jobs.{Job};
 

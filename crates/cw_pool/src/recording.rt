@@ -32,8 +32,8 @@ use std::marker::Brand;
 use std::sync::Wait;
 use std::thread::Threads;
 
-/// Whether what a board gave has a record: memory was not wanting; a strand at which the run stopped is one of the tree; and where no log has a
-/// halt, main came to its end and no strand had stopped. No rule of a board says the last two yet.
+/// Whether what a board gave has a record: the run did not stop out of memory; a strand at which it stopped is one of the tree; and
+/// if no log has a halt, main came to its end and no strand had stopped. No rule of a board says the last two yet.
 fn has_record(closed: &Closed, is_whole: bool) -> bool
     ensures record { IsTrue result → HasRecord closed.now.tree closed.now.halt }
     ensures whole { IsTrue result → closed.now.halt ≡ None → IsTrue is_whole }
@@ -47,7 +47,7 @@ fn has_record(closed: &Closed, is_whole: bool) -> bool
     }
 }
 
-/// The record of what a board gave that was closed with the root's token.
+/// Makes the record from what a board gave when it was closed with the root's token.
 fn recorded(
     alloc: Global,
     program: Program,
@@ -68,12 +68,12 @@ fn recorded(
     if !has_record(&closed, is_whole) {
         return Err(OutOfMemory);
     }
-    // a hint to the prover: the root is a strand
+    // A hint to the prover: the root is a strand.
     let _ = closed.tree.nodes();
     build(alloc, program, words, limits, closed, false)
 }
 
-/// The run on a board, once that has a name.
+/// Runs a program on a board, once the board has a name.
 fn run_named<N: Naming, G: Gate, R: Threads + Wait + Sync>(
     rt: &R,
     alloc: Global,
@@ -119,12 +119,12 @@ fn run_named<N: Naming, G: Gate, R: Threads + Wait + Sync>(
     }
 }
 
-/// Runs a program by so many workers, the first one on the caller's thread, each other on a thread of its own where one could be started; one
-/// worker goes depth first, with neither board nor deque. The program gives up no block: its code has no cancel. The record has the program,
-/// words and limits that are handed in.
+/// Runs a program with `workers` workers, the first one on the caller's thread, and each other one on a thread of its own if that
+/// could be started. One worker runs depth first, with neither board nor deque. The program gives up no block, since its code has
+/// no cancel. The record has the program, words and limits that are passed in.
 ///
-/// With more than one worker the record's tree is put together of what strands did on a board whose rule is small yet: whether it replays has
-/// to be checked. The only error is want of memory; where one stops a strand there is no record.
+/// With more than one worker the record's tree is put together from what strands did on a board whose rule is still small. Whether
+/// it replays has to be checked. The only error is out of memory. A run in which a strand ran out of memory has no record.
 pub fn run<G: Gate, R: Threads + Wait + Sync>(
     rt: &R,
     alloc: Global,

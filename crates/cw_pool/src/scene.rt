@@ -8,13 +8,13 @@ use cw_pair::Pairs;
 use std::alloc::Global;
 use std::marker::PhantomData;
 
-/// What the strands of a run move on: the board that they share, and their program.
+/// What all strands of a run share: the board and the program.
 #[derive(Drop)]
 pub struct Scene<'a, B: SharedBoard, J: Naming> {
     pub alloc: Global,
     pub board: &'a B,
     pub program: &'a Program,
-    /// So many attempts may a block or an access have.
+    /// The most attempts that a block or an access may have.
     pub attempts: u32,
     pub pairs: &'a Pairs<Memo<B::Token>, J>,
     pub of: PhantomData<J>,

@@ -1,4 +1,4 @@
-//! The two tasks of a fork that has two tokens, each taken apart.
+//! The two tasks of a fork with two tokens, each taken apart.
 ghost use Rattle.cw_pool.specs.Tasks.{IsRunning};
 
 use crate::ends::may_end;
@@ -8,13 +8,13 @@ use cw_log::SharedBoard;
 use cw_pair::Half;
 use std::marker::{Model, PhantomData};
 
-/// A task whose strand is the left one of a fork, the right one of which is a task: it has come to its end, has died or was stopped.
+/// A left strand that is over (ended, died or stopped) and whose right strand is a task of its own.
 #[derive(Drop)]
 pub(crate) struct LeftTask<B: SharedBoard, J: Naming> {
     pub(crate) token: B::Token,
     pub(crate) body: Body,
     pub(crate) mode: Mode,
-    /// What waits for the strand that forked, with room for one entry more.
+    /// What waits for the strand that forked, with room for one more entry.
     pub(crate) below: Vec<Below<B::Token, J>>,
     pub(crate) base: Base<B::Token, J>,
     pub(crate) fork: u32,
@@ -60,7 +60,7 @@ impl<B: SharedBoard, J: Naming> Model for RightTask<B, J> {
     ghost invariant = { λ r. IsRunning J.job B.of (B.of r.token) r.body r.mode r.below.items (bottom.Right r.fork r.half) × (r.below.items ≡ []) };
 }
 
-/// A task of these parts.
+/// Makes a task from its parts.
 pub(crate) fn task_of<B: SharedBoard, J: Naming>(
     token: B::Token,
     body: Body,
@@ -82,7 +82,7 @@ pub(crate) fn task_of<B: SharedBoard, J: Naming>(
 }
 
 impl<B: SharedBoard, J: Naming> LeftTask<B, J> {
-    /// The same task taken apart, where it is one.
+    /// Takes a task apart if it is a `LeftTask`. Otherwise gives it back.
     pub(crate) fn of(
         scene: &Scene<'_, B, J>,
         now: Running<B, J>,
@@ -120,7 +120,7 @@ impl<B: SharedBoard, J: Naming> LeftTask<B, J> {
         }
     }
 
-    /// The task as it was.
+    /// Puts the task together as it was.
     pub(crate) fn whole(self) -> Running<B, J> {
         let LeftTask {
             token,
@@ -138,7 +138,7 @@ impl<B: SharedBoard, J: Naming> LeftTask<B, J> {
 }
 
 impl<B: SharedBoard, J: Naming> RightTask<B, J> {
-    /// The same task taken apart, where it is one.
+    /// Takes a task apart if it is a `RightTask`. Otherwise gives it back.
     pub(crate) fn of(now: Running<B, J>) -> Result<RightTask<B, J>, Running<B, J>> {
         let Running {
             token,
@@ -168,7 +168,7 @@ impl<B: SharedBoard, J: Naming> RightTask<B, J> {
         }
     }
 
-    /// The task as it was.
+    /// Puts the task together as it was.
     pub(crate) fn whole(self) -> Running<B, J> {
         let RightTask {
             token,
@@ -183,7 +183,7 @@ impl<B: SharedBoard, J: Naming> RightTask<B, J> {
     }
 }
 
-/// The tasks of the left and of the right strand of a fork, taken apart; or both as they were.
+/// Takes apart the tasks of the left and the right strand of a fork. If they are none, gives both back.
 pub(crate) fn taken_apart<B: SharedBoard, J: Naming>(
     scene: &Scene<'_, B, J>,
     left: Running<B, J>,
@@ -198,7 +198,7 @@ pub(crate) fn taken_apart<B: SharedBoard, J: Naming>(
     }
 }
 
-/// The number of the pair of the fork whose left strand this is, where its right one is a task.
+/// Returns the pair number of the fork whose left strand this is, if the right one is a task.
 pub(crate) fn left_number<B: SharedBoard, J: Naming>(now: &Running<B, J>) -> Option<u64> {
     match now.below.last() {
         Some(Below::Left { half, .. }) => Some(half.number()),
@@ -206,7 +206,7 @@ pub(crate) fn left_number<B: SharedBoard, J: Naming>(now: &Running<B, J>) -> Opt
     }
 }
 
-/// The number of the pair of the fork as whose right strand the task began.
+/// Returns the pair number of the fork as whose right strand the task began.
 pub(crate) fn right_number<B: SharedBoard, J: Naming>(now: &Running<B, J>) -> Option<u64> {
     match &now.base {
         Base::Root => None,

@@ -1,9 +1,10 @@
-//! A right strand that was stolen begins.
+//! How a stolen right strand begins.
 use crate::{Base, Mode, Naming, Running, Scene};
 use cw_log::SharedBoard;
 use std::sync::Wait;
 
-/// A right strand that waits goes on, once its fork is split. False where another fork is to be split before: it waits as before.
+/// Splits the fork of a right strand that waits, which then goes on. Returns false if another fork has to be split first; the
+/// strand then waits as before.
 pub(crate) fn splits<B: SharedBoard, J: Naming, R: Wait>(
     rt: &R,
     scene: &Scene<'_, B, J>,

@@ -6,14 +6,14 @@ use cw_pair::Half;
 use std::marker::{Model, PhantomData};
 use std::snapshot::Snapshot;
 
-/// What both halves of a fork know of it: the body before it, and the right strand's token behind it.
+/// What both halves of a fork's pair stand for: the body before the fork, and the right strand's token after it.
 #[derive(Drop)]
 pub struct Memo<T> {
     pub before: Snapshot<Body>,
     pub right: Snapshot<T>,
 }
 
-/// How a strand stands.
+/// Whether and how a strand goes on.
 #[derive(Clone, Copy, Drop, PartialEq, Eq, Debug)]
 pub enum Mode {
     Goes,
@@ -27,13 +27,13 @@ pub enum Mode {
 /// What waits for a strand, from a fork on.
 #[derive(Drop)]
 pub enum Below<T, J: cw_pair::Naming> {
-    /// It is the left strand. The right one is a task.
+    /// The strand is the left one; the right one is a task.
     Left { fork: u32, half: Half<Memo<T>, J> },
-    /// It is the left strand of an inline fork, and this is the right one.
+    /// The strand is the left one of an inline fork, and `right` is the body of the right one.
     Inline { right: Body },
-    /// It is the right strand of an inline fork, after this one.
+    /// The strand is the right one of an inline fork, and `left` is the body of the left one, which has ended.
     Second { left: Body },
-    /// It is the right strand of a fork that was taken back, after this one.
+    /// The strand is the right one of a fork that was taken back. The left one has ended, with this token and body.
     Taken { token: T, left: Body },
 }
 
@@ -45,7 +45,8 @@ pub enum Base<T, J: cw_pair::Naming> {
     Right { fork: u32, half: Half<Memo<T>, J> },
 }
 
-/// A strand that runs, and what waits for it, the newest last.
+/// A strand that runs, and what waits for it, newest last. Its invariant is `IsRunning`. A move that is asked for at the wrong time
+/// does nothing.
 #[derive(Drop)]
 pub struct Running<B: SharedBoard, J: Naming> {
     pub(crate) token: B::Token,

@@ -13,7 +13,7 @@ use std::sync::Wait;
 use std::thread::Threads;
 use std::{hint, thread};
 
-/// So many empty turns lie between two tries of a refused access or block.
+/// The number of spins between two tries of a refused access or block.
 const TURNS: u32 = 1_000;
 
 fn pauses() {
@@ -31,7 +31,7 @@ fn is_refused(nodes: &[Node]) -> bool {
     }
 }
 
-/// A strand whose access was refused tries again after a little.
+/// Backs off after a refused access.
 fn waits_if_refused<B: SharedBoard, J: Naming>(scene: &Scene<'_, B, J>, now: &Running<B, J>) {
     if let Mode::Goes = now.mode {
         if is_refused(scene.board.nodes(&now.token)) {
@@ -40,7 +40,7 @@ fn waits_if_refused<B: SharedBoard, J: Naming>(scene: &Scene<'_, B, J>, now: &Ru
     }
 }
 
-/// A strand that goes on does what it wants, a fork and its end aside.
+/// Does what the strand wants, except a fork or its end.
 pub(crate) fn acts<B: SharedBoard, J: Naming, G: Gate, R: Threads + Wait + Sync>(
     rt: &R,
     scene: &Scene<'_, B, J>,
@@ -72,7 +72,7 @@ pub(crate) fn acts<B: SharedBoard, J: Naming, G: Gate, R: Threads + Wait + Sync>
     }
 }
 
-/// A strand that goes back rolls a block back. Where it stands at its begin again, it waits a little.
+/// Rolls back a block of a strand that goes back. If the strand then stands at its begin again, backs off.
 pub(crate) fn goes_back<B: SharedBoard, J: Naming, R: Wait>(
     rt: &R,
     scene: &Scene<'_, B, J>,

@@ -1,4 +1,4 @@
-//! A worker, and what it does in turn.
+//! A worker, and what it does step by step.
 use crate::boxes::{Boxes, Task, TaskBox, taken_up};
 use crate::ends::{After, ends, may_end};
 use crate::forks::forks;
@@ -21,12 +21,12 @@ use std::sync::{Mutex, Wait};
 use std::thread;
 use std::thread::Threads;
 
-/// What the workers of a run have in common.
+/// What all workers of a run share.
 #[derive(Drop)]
 pub(crate) struct Common<'a, B: SharedBoard, J: Naming, G: Gate> {
     pub(crate) scene: Scene<'a, B, J>,
     pub(crate) gate: &'a G,
-    /// Those of each worker's forks.
+    /// The frames of each worker's forks.
     pub(crate) frames: Vec<Frames<B, J>>,
     pub(crate) end: Mutex<Option<Ended<B, J>>>,
     /// Not 0 once the run has ended.
@@ -34,7 +34,7 @@ pub(crate) struct Common<'a, B: SharedBoard, J: Naming, G: Gate> {
 }
 
 impl<'a, B: SharedBoard, J: Naming, G: Gate> Common<'a, B, J, G> {
-    /// The frame of the fork whose pair has this number.
+    /// Returns the frame of the fork whose pair has this number.
     fn frame(&self, number: u64) -> Option<&Frame<B, J>> {
         self.frames
             .get((number / NUMBERS) as usize)?
@@ -46,7 +46,7 @@ impl<'a, B: SharedBoard, J: Naming, G: Gate> Common<'a, B, J, G> {
     }
 }
 
-/// The design excludes what would lead here: it waits for ever.
+/// Unreachable by design, though not by proof. Rather than go on from an unknown state, the worker spins here for ever.
 pub(crate) fn never<R: Wait, T>(rt: &R) -> T
     ensures { ⊥ }
 {
@@ -94,7 +94,7 @@ impl<B: SharedBoard, J: Naming> Worker<B, J> {
         }
     }
 
-    /// A step of a strand, and with what the worker goes on.
+    /// Makes one step of a strand. Returns the task with which the worker goes on.
     fn turn<G: Gate, R: Threads + Wait + Sync>(
         &mut self,
         rt: &R,
@@ -117,7 +117,7 @@ impl<B: SharedBoard, J: Naming> Worker<B, J> {
         Some(task)
     }
 
-    /// A strand forks: the worker goes on with the left strand. All memory is there before the board's fork.
+    /// Forks a strand, and goes on with the left one. All memory is taken before the board's fork.
     fn forks<G: Gate, R: Threads + Wait + Sync>(
         &mut self,
         rt: &R,
@@ -152,7 +152,7 @@ impl<B: SharedBoard, J: Naming> Worker<B, J> {
         Task { home, now }
     }
 
-    /// What follows a strand that has come to its end, has died or was stopped.
+    /// Handles a strand that is over: it came to its end, died or was stopped.
     fn ends<G: Gate, R: Threads + Wait + Sync>(
         &mut self,
         rt: &R,
@@ -176,7 +176,7 @@ impl<B: SharedBoard, J: Naming> Worker<B, J> {
         }
     }
 
-    /// After the left strand of a fork: its right one waits here, or was stolen.
+    /// Goes on after the left strand of a fork: its right one waits here, or was stolen.
     fn after_left<G: Gate, R: Threads + Wait + Sync>(
         &mut self,
         rt: &R,
@@ -200,7 +200,7 @@ impl<B: SharedBoard, J: Naming> Worker<B, J> {
         }
     }
 
-    /// A strand of a stolen fork waits for the other one, or both are joined.
+    /// Lets a strand of a stolen fork wait for the other strand, or joins both.
     fn at_frame<G: Gate, R: Threads + Wait + Sync>(
         &mut self,
         rt: &R,
@@ -233,7 +233,7 @@ impl<B: SharedBoard, J: Naming> Worker<B, J> {
         }
     }
 
-    /// Takes the oldest task of another worker. Its strand begins once its fork is split, unless the run was stopped.
+    /// Steals the oldest task of another worker. Its strand begins once its fork is split, unless the run was stopped.
     fn steals<G: Gate, R: Threads + Wait + Sync>(
         &mut self,
         rt: &R,
@@ -259,7 +259,7 @@ impl<B: SharedBoard, J: Naming> Worker<B, J> {
     }
 }
 
-/// Makes the frame of a worker's fork with this number.
+/// Makes the frame of the worker's fork with this pair number.
 fn makes_frame<B: SharedBoard, J: Naming, G: Gate, R: Wait>(
     rt: &R,
     common: &Common<'_, B, J, G>,
@@ -272,7 +272,7 @@ fn makes_frame<B: SharedBoard, J: Naming, G: Gate, R: Wait>(
     }
 }
 
-/// While another fork is to be split before, it is tried again.
+/// Retries until every fork outward of this one has been split.
 fn splits_at_last<B: SharedBoard, J: Naming, G: Gate, R: Threads + Wait + Sync>(
     rt: &R,
     common: &Common<'_, B, J, G>,

@@ -1,4 +1,4 @@
-//! How a run begins and ends, and all that is between.
+//! Sets up the workers, runs them, and takes back the root's token.
 ghost use Rattle.std.specs.Prelude.{◌≡◌, IsTrue, false, length};
 ghost use Rattle.cw_strand.specs.Names.{first_memory};
 ghost use Rattle.cw_job.specs.Jobs.{Job};
@@ -26,13 +26,13 @@ use std::sync::atomic::AtomicU64;
 use std::sync::{Mutex, Wait};
 use std::thread::Threads;
 
-/// What a run needs before its first thread is started.
+/// What a run needs before its first thread starts.
 #[derive(Drop)]
 struct Ready<B: SharedBoard, J: Naming> {
     crew: Crew<B, J>,
-    /// Those of each worker's forks.
+    /// The frames of each worker's forks.
     frames: Vec<Frames<B, J>>,
-    /// For the task of main.
+    /// The box for the task of main.
     home: TaskBox<B, J>,
 }
 
@@ -62,7 +62,7 @@ fn make_ready<B: SharedBoard, J: Naming>(
     })
 }
 
-/// The strand of main, with the root's token.
+/// Makes the task of main, with the root's token.
 fn main_strand<B: SharedBoard, J: Naming>(
     alloc: Global,
     token: B::Token,
@@ -82,10 +82,10 @@ fn main_strand<B: SharedBoard, J: Naming>(
     }
 }
 
-/// The root's token of a run that has ended, and whether main came to its end and no strand had stopped.
+/// The root's token of a run that has ended; and whether main came to its end and no strand had stopped.
 type Whole<B> = (<B as SharedBoard>::Token, bool);
 
-/// Memory was wanting before any strand began.
+/// Ends a run that ran out of memory before any strand began.
 #[tactic(auto, using(crate::proofs::Tasks::Worked::none_worked))]
 fn never_begins<B: SharedBoard>(board: &B, root: B::Token) -> Whole<B>
     requires { B.of root ≡ root_token }
@@ -98,7 +98,7 @@ fn never_begins<B: SharedBoard>(board: &B, root: B::Token) -> Whole<B>
     (token, false)
 }
 
-/// It is asked at last whether some strand has stopped.
+/// Asks a last time whether some strand has stopped.
 #[tactic(auto, using(crate::proofs::Tasks::Worked::still_worked, crate::proofs::Tasks::Worked::still_untold))]
 fn last_look<B: SharedBoard, J: Naming>(board: &B, ended: Ended<B, J>) -> Whole<B>
     ensures worked { IsWorked J.job (B.of result.0) }
@@ -113,7 +113,7 @@ fn last_look<B: SharedBoard, J: Naming>(board: &B, ended: Ended<B, J>) -> Whole<
     (token, is_whole && !has_stopped)
 }
 
-/// The run once its pairs have a name.
+/// Runs the program, once its pairs have a name.
 fn work_in<'x, B: SharedBoard, J: Naming, G: Gate, R: Threads + Wait + Sync>(
     rt: &R,
     scene: Scene<'x, B, J>,
@@ -151,7 +151,7 @@ fn work_in<'x, B: SharedBoard, J: Naming, G: Gate, R: Threads + Wait + Sync>(
     }
 }
 
-/// The run under a name of its own.
+/// Runs the program under a name of its own.
 fn work_named<'x, B: SharedBoard, J: Naming, G: Gate, R: Threads + Wait + Sync>(
     rt: &R,
     alloc: Global,
@@ -188,7 +188,7 @@ fn work_named<'x, B: SharedBoard, J: Naming, G: Gate, R: Threads + Wait + Sync>(
     work_in(rt, scene, source, root, body, workers, limits.strands, gate)
 }
 
-/// The same, with whether main came to its end and no strand had stopped.
+/// Like `work`, but also returns whether main ran to its end and no strand halted.
 pub(crate) fn work_whole<'x, B: SharedBoard, G: Gate, R: Threads + Wait + Sync>(
     rt: &R,
     alloc: Global,
@@ -216,8 +216,8 @@ pub(crate) fn work_whole<'x, B: SharedBoard, G: Gate, R: Threads + Wait + Sync>(
     )
 }
 
-/// Runs a program on the board that it is lent, by so many workers, one at least: the root's token, with all others joined. Where memory is
-/// wanting, the token tells it by its halt.
+/// Runs a program on the given board with `workers` workers, at least one. Returns the root's token, to which all others were
+/// joined. If memory runs out, the token's halt tells so.
 pub fn work<'x, B: SharedBoard, G: Gate, R: Threads + Wait + Sync>(
     rt: &R,
     alloc: Global,
