@@ -1,4 +1,4 @@
--- The report on a run: how many strands and blocks its tree has, and each access that was refused. Every line ends with a newline.
+-- The report on a run: the numbers of strands and blocks in its tree, and each refused access. Every line ends with a newline.
 use Rattle.std.specs.Prelude.{ℕ, zero, suc, ◌&&◌, ◌||◌, Bool, not, nat_lt, List, [], ◌∷◌, ◌++◌, count_by, length, map, codes, slice_get, Option, Some, None, option_map, unwrap_or, if◌then◌else◌}
 use Rattle.std.specs.List.{flat_map, range_with_len}
 use Rattle.std.specs.Fmt.{decimal}
@@ -13,11 +13,11 @@ use Rattle.cw_report.specs.Results.{line, strand_text}
 
 -- ## What is counted
 
--- how many nodes of a tree pass a test
+-- the number of nodes of a tree that pass the test `p`
 abbrev pub count_nodes : (List Node → ℕ → Bool) → List Node → ℕ
 count_nodes p t = count_by (p t) (all_nodes t)
 
--- a block that was committed, with no aborted block above it
+-- a committed block with no aborted block above it
 abbrev pub stands_committed : List Node → ℕ → Bool
 stands_committed t n = is_committed t n && is_live t n
 
@@ -27,7 +27,7 @@ is_undone t n = is_aborted t n || (is_committed t n && not (is_live t n))
 
 -- ## What is named
 
--- what is written of something that is not there
+-- what is written for something that does not exist
 abbrev pub unknown : List ℕ
 unknown = codes "?"
 
@@ -35,7 +35,7 @@ unknown = codes "?"
 abbrev pub element_name : CellInfo → ℕ → List ℕ
 element_name c i = c.name ++ codes "[" ++ decimal i ++ codes "]"
 
--- the names of a cell's elements: of a plain cell its own
+-- the names of a cell's elements; a plain cell has its own name
 abbrev pub element_names_by : ℕ → CellInfo → List (List ℕ)
 element_names_by zero c = c.name ∷ []
 element_names_by (suc n) c = map (element_name c) (range_with_len 0 (suc n))
@@ -43,25 +43,25 @@ element_names_by (suc n) c = map (element_name c) (range_with_len 0 (suc n))
 abbrev pub element_names : CellInfo → List (List ℕ)
 element_names c = element_names_by c.len c
 
--- the name of element k, of those of all cells in the order of declaration
+-- the name of element `k` among those of all cells, in the order of declaration
 abbrev pub cell_text : List CellInfo → ℕ → List ℕ
 cell_text cells k = unwrap_or (slice_get (flat_map element_names cells) k) unknown
 
--- the strand of a node: the innermost one at or above it
+-- the name of a node's strand: the innermost strand at or above the node
 abbrev pub maker_text : List Node → Option ℕ → List ℕ
 maker_text t None = unknown
 maker_text t (Some n) = strand_text t (strand_of t n)
 
--- a node, if it is there
+-- the node `n`, if it exists
 abbrev pub node_there : List Node → ℕ → Option ℕ
 node_there t n = if nat_lt n (length t) then Some n else None
 
--- a block by the stamp of its begin, where 0 is none
+-- a block by the stamp of its begin; 0 stands for none
 abbrev pub victim_text : ℕ → List ℕ
 victim_text zero = codes "none"
 victim_text (suc k) = decimal (suc k)
 
--- stamps with commas between them
+-- the stamps, each after a comma
 abbrev pub more_text : List ℕ → List ℕ
 more_text ks = flat_map (λ k. codes "," ++ decimal k) ks
 
@@ -71,18 +71,18 @@ stamps_text (k ∷ ks) = decimal k ++ more_text ks
 
 -- ## The report
 
--- the last access of the cell by the strand of the first node with its stamp, and the refused access by its own strand
+-- the last access of the cell, by the strand of the first node with its stamp; and the refused access, by its own strand
 abbrev pub accesses_text : List CellInfo → List Node → Conflict → List ℕ
 accesses_text cells t k = cell_text cells k.cell ++ codes " last " ++ maker_text t (with_stamp t k.last) ++ codes "@" ++ decimal k.last ++ codes " asker " ++ maker_text t (node_there t k.asker)
 
--- the block in the way, the one that has to roll back, the attempt, and the newest accesses of the cell
+-- the block in the way, the victim, the attempt, and the newest accesses of the cell
 abbrev pub blocks_text : Conflict → List ℕ
 blocks_text k = codes " block " ++ decimal k.block ++ codes " victim " ++ victim_text k.victim ++ codes " attempt " ++ decimal k.attempt ++ codes " chain " ++ stamps_text k.chain
 
 abbrev pub conflict_line : List CellInfo → List Node → Conflict → List ℕ
 conflict_line cells t k = line (codes "conflict " ++ accesses_text cells t k ++ blocks_text k)
 
--- the lines before the conflicts, where there are so many of each
+-- the lines before the conflicts, with these numbers
 abbrev pub counted_text : (strands committed undone conflicts : ℕ) → List ℕ
 counted_text strands committed undone conflicts =
     line (codes "report 1")

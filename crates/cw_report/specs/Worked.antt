@@ -1,4 +1,4 @@
--- Reports on small runs.
+-- Examples: reports on small runs.
 use Rattle.std.specs.Prelude.{◌≡◌, ℕ, pos, List, [], ◌∷◌, ◌++◌, codes, Some, None}
 use Rattle.cw_code.specs.declared.CellInfo.{CellInfo}
 use Rattle.cw_tree.specs.declared.conflict.Conflict.{Conflict}
@@ -10,7 +10,7 @@ use Rattle.cw_tree.specs.Nodes.{is_strand}
 use Rattle.cw_report.specs.Results.{line}
 use Rattle.cw_report.specs.Report.{cell_text, conflict_line, count_nodes, counts_text, is_undone, stands_committed}
 
--- a closed or pending block, and a leaf
+-- a closed or pending block; below, a leaf
 abbrev pub block : (parent : ℕ) → BlockState → (stamp end : ℕ) → Node
 block parent state stamp end = record { parent = parent; kind = Block; state = state; stamp = stamp; end = end }
 
@@ -23,8 +23,9 @@ writes parent cell stamp = record { parent = parent; kind = Write cell (pos 1); 
 abbrev pub tries : (parent cell : ℕ) → Node
 tries parent cell = record { parent = parent; kind = Tried cell; state = Committed; stamp = 0; end = 0 }
 
--- A block forks: its left strand writes element 1 in a block, its right one begins a block, and has another one in it that was committed; there
--- it was refused that element, and rolled back. Then it did so again, and was not refused.
+-- Main forks. The left strand writes element 1 in a block. The right strand begins a block, in which another one was committed;
+-- there an access of that element was refused, and the outer block was rolled back. Then the right strand did the same again, and
+-- was not refused.
 abbrev pub forked : List Node
 forked =
     strand 0 ∷ record { parent = 0; kind = Fork; state = Committed; stamp = 1; end = 0 }
@@ -54,8 +55,8 @@ pub record Counts : Type 0 where
 pub record Lines : Type 0 where
   pub array : conflict_line one_array forked refused ≡ line (codes "conflict a[1] last 0.1l@5 asker 0.1r block 4 victim 2 attempt 1 chain 5")
   pub plain : conflict_line two_plain forked refused ≡ line (codes "conflict c last 0.1l@5 asker 0.1r block 4 victim 2 attempt 1 chain 5")
-  -- without a victim, and after more accesses than one
+  -- without a victim, and after several accesses
   pub no_victim : conflict_line two_plain forked (record refused { victim = 0; chain = 3 ∷ 5 ∷ [] }) ≡ line (codes "conflict c last 0.1l@5 asker 0.1r block 4 victim none attempt 1 chain 3,5")
-  -- the stamp of an end is no node's
+  -- the stamp of an end is not the stamp of a node
   pub end : conflict_line two_plain forked (record refused { last = 6 }) ≡ line (codes "conflict c last ?@6 asker 0.1r block 4 victim 2 attempt 1 chain 5")
   pub no_cell : cell_text two_plain 2 ≡ codes "?"

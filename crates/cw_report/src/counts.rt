@@ -8,7 +8,7 @@ use cw_base::OutOfMemory;
 use cw_tree::{BlockState, Tree};
 use std::alloc::Global;
 
-/// How many strands and closed blocks a tree has.
+/// The numbers of strands and closed blocks in a tree.
 #[derive(Clone, Copy)]
 pub(crate) struct Counts {
     pub(crate) strands: u32,
@@ -40,7 +40,7 @@ impl Counts {
     }
 }
 
-// For each node whether no aborted block is above it.
+// Returns for each node whether no aborted block is above it.
 fn live_nodes(alloc: Global, tree: &Tree) -> Result<Vec<bool>, OutOfMemory>
     ensures { IfOk result (λ ls. ls.items ≡ map (is_live tree.now) (all_nodes tree.now)) }
 {
@@ -53,7 +53,7 @@ fn live_nodes(alloc: Global, tree: &Tree) -> Result<Vec<bool>, OutOfMemory>
     Ok(live)
 }
 
-// The same of one node, from those of the nodes before it.
+// Whether no aborted block is above node `n`, given the same for the nodes before it.
 fn is_live(tree: &Tree, before: &[bool], n: u32) -> bool
     requires there { n < length tree.now }
     requires before { before.now ≡ map (is_live tree.now) (below n) }
@@ -66,7 +66,7 @@ fn is_live(tree: &Tree, before: &[bool], n: u32) -> bool
     !tree.is_aborted(parent) && before[parent as usize]
 }
 
-// Whether a node is a block that was committed.
+// Whether a node is a committed block.
 fn is_committed(tree: &Tree, n: u32) -> bool
     requires { n < length tree.now }
     ensures { result ≡ is_committed tree.now n }
@@ -83,7 +83,7 @@ fn stands_committed(tree: &Tree, lives: bool, n: u32) -> bool
     is_committed(tree, n) && lives
 }
 
-// Whether it is any other closed block.
+// Whether a node is any other closed block.
 fn is_undone(tree: &Tree, lives: bool, n: u32) -> bool
     requires there { n < length tree.now }
     requires lives { lives ≡ is_live tree.now n }

@@ -8,14 +8,14 @@ use cw_code::CellInfo;
 use std::alloc::Global;
 use std::fmt::Write;
 
-/// An element of a cell: the cell's name, and its place in an array.
+/// An element of a cell: the cell's name, and the element's position in an array.
 #[derive(Clone, Copy)]
 pub(crate) struct Element<'a> {
     name: &'a str,
     place: Option<u32>,
 }
 
-/// The elements of all cells, by their numbers.
+/// Lists the elements of all cells, by their numbers.
 pub(crate) fn elements<'a>(
     alloc: Global,
     cells: &'a [CellInfo],
@@ -46,7 +46,7 @@ fn push_elements<'a>(list: &mut Vec<Element<'a>>, cell: &'a CellInfo) -> Result<
     Ok(())
 }
 
-/// Writes the name of an element.
+/// Writes the name of element `number`.
 pub(crate) fn push_element(
     text: &mut String,
     elements: &[Element<'_>],

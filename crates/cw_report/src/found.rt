@@ -16,14 +16,14 @@ use std::alloc::Global;
 use std::collections::BTreeMap;
 use std::fmt::Write;
 
-/// What is found once for all lines of a report.
+/// What is computed once for all lines of a report.
 #[derive(Drop)]
 pub(crate) struct Found {
-    // for each node the number that a fork in its place has, whether it is a right strand, and its strand
+    // For each node: the number that a fork in its place has, whether the node is a right strand, and its strand.
     forks: Vec<u32>,
     sides: Vec<bool>,
     strands: Vec<u32>,
-    // the first node with each stamp
+    // The first node with each stamp.
     first: BTreeMap<u64, u32>,
 }
 
@@ -39,7 +39,7 @@ impl Found {
         })
     }
 
-    /// Writes the strand that made the first node with a stamp.
+    /// Writes the strand that made the first node with `stamp`.
     pub(crate) fn push_maker(
         &self,
         text: &mut String,
@@ -56,7 +56,7 @@ impl Found {
         Ok(())
     }
 
-    /// Writes the strand in which a node stands.
+    /// Writes the strand in which `node` stands.
     pub(crate) fn push_strand(
         &self,
         text: &mut String,
@@ -66,7 +66,7 @@ impl Found {
         requires { AreFound tree.now self.now.forks.items self.now.sides.items self.now.strands.items (get nat_cmp self.now.first) }
         ensures { OnOk result (string_bytes text.new ≡ string_bytes text.old ++ maker_text tree.now (node_there tree.now node)) }
     {
-        // a hint to the prover: the root is a strand
+        // A hint to the prover: the root is a strand.
         let _ = tree.nodes();
         if node as usize >= self.strands.len() {
             text.push_str("?")?;
@@ -78,7 +78,7 @@ impl Found {
         Ok(())
     }
 
-    // The steps from the root down to a strand.
+    // Returns the steps from the root down to `strand`.
     fn turns(&self, tree: &Tree, strand: u32) -> Result<Vec<Turn>, OutOfMemory>
         requires found { AreFound tree.now self.now.forks.items self.now.sides.items self.now.strands.items (get nat_cmp self.now.first) }
         requires there { strand < length tree.now }
@@ -117,7 +117,7 @@ fn push_turns(text: &mut String, turns: &[Turn]) -> Result<(), OutOfMemory>
     Ok(())
 }
 
-// For each node its strand.
+// Returns the strand of each node.
 fn strands(alloc: Global, tree: &Tree) -> Result<Vec<u32>, OutOfMemory>
     ensures { IfOk result (λ ss. ss.items ≡ map (strand_of tree.now) (all_nodes tree.now)) }
 {
@@ -130,7 +130,7 @@ fn strands(alloc: Global, tree: &Tree) -> Result<Vec<u32>, OutOfMemory>
     Ok(strands)
 }
 
-// The same of one node, from those of the nodes before it.
+// Returns the strand of node `n`, given the strands of the nodes before it.
 fn strand_at(tree: &Tree, before: &[u32], n: u32) -> u32
     requires there { n < length tree.now }
     requires before { before.now ≡ map (strand_of tree.now) (below n) }
@@ -142,7 +142,7 @@ fn strand_at(tree: &Tree, before: &[u32], n: u32) -> u32
     before[tree.parent(n) as usize]
 }
 
-// For each stamp the first node that has it.
+// Returns for each stamp the first node that has it.
 fn first_nodes(alloc: Global, tree: &Tree) -> Result<BTreeMap<u64, u32>, OutOfMemory>
     ensures { IfOk result (λ first. (stamp : ℕ) → get nat_cmp first stamp ≡ with_stamp tree.now stamp) }
 {
@@ -153,7 +153,7 @@ fn first_nodes(alloc: Global, tree: &Tree) -> Result<BTreeMap<u64, u32>, OutOfMe
     Ok(first)
 }
 
-// A node with a stamp, which is the first one where none was noted before.
+// Notes `node` as the first one with `stamp`, unless one was noted before.
 fn note_first(first: &mut BTreeMap<u64, u32>, stamp: u64, node: u32) -> Result<(), OutOfMemory>
     ensures { OnOk result ((s : ℕ) → get nat_cmp first.new s ≡ option_or (get nat_cmp first.old s) (if is_eq (nat_cmp stamp s) then Some node else None)) }
 {

@@ -1,7 +1,7 @@
-//! The texts of a run: its result, and the report on its strands, its blocks and its refused accesses.
-//! Stands on `cw_base`, `cw_code`, `cw_job`, `cw_tree` and `cw_record`.
-//! Contracts cite `specs/Results.antt` (the result) and `specs/Report.antt` (the report). Private ones cite `specs/Found.antt` (what is found
-//! once for all lines) and `specs/Elements.antt` (elements at hand). `Worked` tries them.
+//! The texts of a run: its result, and the report on its strands, blocks and refused accesses. Use it to print a `Record`.
+//! Contracts cite `specs/Results.antt` (the result) and `specs/Report.antt` (the report). Private ones cite `specs/Found.antt`
+//! (what is computed once for all lines) and `specs/Elements.antt` (how elements are looked up). `specs/Worked.antt` tries them on
+//! examples.
 #![tactic(auto)]
 
 mod counts;
@@ -15,7 +15,7 @@ ghost use Rattle.cw_report.specs.Worked.{Counts, Lines};
 pub use report::report_text;
 pub use results::result_text;
 
-/// Reports on small runs.
+/// Examples: reports on small runs.
 pub fn worked_reports()
     ensures counts { Counts }
     ensures lines { Lines }

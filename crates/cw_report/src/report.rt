@@ -17,7 +17,7 @@ use cw_tree::{Conflict, Tree};
 use std::alloc::Global;
 use std::fmt::Write;
 
-// The lines before the conflicts, where there are so many.
+// Writes the lines before the conflicts, with these numbers.
 fn push_counts(text: &mut String, counts: Counts, conflicts: usize) -> Result<(), OutOfMemory>
     ensures { OnOk result (string_bytes text.new ≡ string_bytes text.old ++ counted_text counts.strands counts.committed counts.undone conflicts) }
 {
@@ -39,7 +39,7 @@ fn push_victim(text: &mut String, victim: u64) -> Result<(), OutOfMemory>
     Ok(())
 }
 
-// Stamps with commas between them.
+// Writes stamps with commas between them.
 fn push_stamps(text: &mut String, stamps: &[u64]) -> Result<(), OutOfMemory>
     ensures { OnOk result (string_bytes text.new ≡ string_bytes text.old ++ stamps_text stamps.now) }
 {
@@ -50,7 +50,7 @@ fn push_stamps(text: &mut String, stamps: &[u64]) -> Result<(), OutOfMemory>
     push_more(text, rest)
 }
 
-// More stamps, each behind a comma.
+// Writes stamps, each after a comma.
 fn push_more(text: &mut String, stamps: &[u64]) -> Result<(), OutOfMemory>
     ensures { OnOk result (string_bytes text.new ≡ string_bytes text.old ++ more_text stamps.now) }
 {
@@ -60,7 +60,7 @@ fn push_more(text: &mut String, stamps: &[u64]) -> Result<(), OutOfMemory>
     Ok(())
 }
 
-// The block in the way, the one that has to roll back, the attempt, and the newest accesses of the cell.
+// Writes the block in the way, the victim, the attempt, and the newest accesses of the cell.
 fn push_blocks(text: &mut String, conflict: &Conflict) -> Result<(), OutOfMemory>
     ensures { OnOk result (string_bytes text.new ≡ string_bytes text.old ++ blocks_text conflict.now) }
 {
@@ -70,7 +70,7 @@ fn push_blocks(text: &mut String, conflict: &Conflict) -> Result<(), OutOfMemory
     push_stamps(text, conflict.chain.as_slice())
 }
 
-// The last access of the cell by the strand of the first node with its stamp, and the refused access by its own strand.
+// Writes the last access of the cell, by the strand of the first node with its stamp; and the refused access, by its own strand.
 fn push_accesses(
     text: &mut String,
     tree: &Tree,
@@ -127,14 +127,15 @@ fn push_conflicts(
     Ok(())
 }
 
-/// The report on a run, which stands behind its result. First `report 1`, then the number of strands that its tree has, of attempts that
-/// were rolled back and never started ones, too; of committed blocks with no aborted block above them, and of all other closed blocks; and of
-/// conflicts. Then a line for each conflict, in the record's order, and `end report`:
+/// Returns the report on a run, which follows its result. It begins with `report 1` and three lines of numbers. The first has the
+/// strands of its tree, including those of rolled-back attempts and those that never started. The second has the committed blocks
+/// with no aborted block above them, and all other closed blocks. The third has the conflicts. Then follow a line for each
+/// conflict, in the record's order, and `end report`:
 ///
 /// `conflict CELL last STRAND@STAMP asker STRAND block STAMP victim STAMP attempt NUMBER chain STAMPS`
 ///
-/// A cell is `NAME`, or `NAME[I]` for an element of an array. The strand of a stamp is that of the first node with it. A victim that there
-/// is none of is `none`, and what the record does not have is `?`.
+/// A cell is `NAME`, or `NAME[I]` for an element of an array. The strand of a stamp is that of the first node with this stamp.
+/// Without a victim, `none` is written; `?` is written for what the record does not have.
 pub fn report_text(alloc: Global, kept: &Record) -> Result<Vec<u8>, OutOfMemory>
     ensures { IfOk result (λ text. text.items ≡ report_text kept.now) }
 {

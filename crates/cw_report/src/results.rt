@@ -141,9 +141,9 @@ fn end_text(
     }
 }
 
-/// The text of a run. Of one that finished: a line `out V` for each output, in order, then a line `NAME = V` for each cell, in
-/// the order of declaration (`NAME[I] = V` for each element of an array), then `end`. Of another one: a line that says why, and
-/// in which strand.
+/// Returns the text of a run. A finished run has a line `out V` for each output, in order; then a line `NAME = V` for each cell, in
+/// the order of declaration (`NAME[I] = V` for each element of an array); then `end`. Any other run has one line, which says why it
+/// ended, and in which strand.
 pub fn result_text(alloc: Global, kept: &Record) -> Result<Vec<u8>, OutOfMemory>
     requires { IsTrue (is_strand kept.now.tree (ending_strand kept.now.end)) }
     ensures { IfOk result (λ text. text.items ≡ run_text kept.now) }
