@@ -1,5 +1,5 @@
--- The program of a load, as a tree all of whose lines are 1: so many transfers between 64 accounts, in groups of 16, each transfer in a
--- strand of its own beneath the strand of its group.
+-- The program of a load, as a tree whose lines are all 1. It makes transfers between 64 accounts, in groups of 16. Each transfer
+-- has a strand of its own beneath the strand of its group.
 use Rattle.std.specs.Prelude.{ℕ, zero, suc, ◌+◌, ◌*◌, ◌/◌, ◌%◌, pos, List, [], ◌∷◌, ◌++◌, map, codes, take, drop}
 use Rattle.std.specs.List.{range_with_len}
 use Rattle.std.specs.Fmt.{decimal}
@@ -11,7 +11,7 @@ use Rattle.cw_text.specs.Syntax.{Term, number, name, at, none, more, binary, Sta
 
 -- ## What is drawn
 
--- so much from one account to another
+-- an amount that is moved from one account to another
 pub record Transfer : Type 0 where
   pub from : ℕ
   pub to : ℕ
@@ -21,7 +21,7 @@ pub record Transfer : Type 0 where
 abbrev pub after_transfer : ℕ → ℕ
 after_transfer s = next_state (next_state (next_state s))
 
--- what three draws from this state on give
+-- the transfer that three draws give, from state `s` on
 abbrev pub transfer_from : ℕ → Transfer
 transfer_from s = record {
   from = drawn (next_state s) % 64;
@@ -29,12 +29,12 @@ transfer_from s = record {
   amount = drawn (after_transfer s) % 100;
 }
 
--- so many, drawn from this state on
+-- `count` transfers, drawn from this state on
 abbrev pub transfers : (count state : ℕ) → List Transfer
 transfers zero s = []
 transfers (suc n) s = transfer_from s ∷ transfers n (after_transfer s)
 
--- the state after the draws of so many
+-- the state after the draws of `count` transfers
 abbrev pub state_after : (count state : ℕ) → ℕ
 state_after zero s = s
 state_after (suc n) s = state_after n (after_transfer s)
@@ -80,11 +80,11 @@ group_name k = codes "g" ++ decimal k
 abbrev pub group_function : ℕ → List Transfer → Declaration
 group_function k ts = func (group_name k) 1 [] (block (map spawned_transfer ts))
 
--- group k of some transfers
+-- group `k` of some transfers
 abbrev pub group : ℕ → List Transfer → List Transfer
 group k ts = take 16 (drop (16 * k) ts)
 
--- so many groups have so many transfers
+-- the number of groups for `n` transfers
 abbrev pub group_count : ℕ → ℕ
 group_count n = (n + 15) / 16
 
@@ -107,7 +107,7 @@ summing =
 abbrev pub summed : List Statement
 summed = declare (word (codes "k")) (number (pos 0)) ∷ declare (word (codes "s")) (number (pos 0)) ∷ summing ∷ out (name_term (codes "s")) ∷ []
 
--- `fn main() { .. }`: a strand for each of so many groups, and the sum of all accounts
+-- `fn main() { .. }`: a strand for each group, and the sum of all accounts
 abbrev pub load_main : ℕ → Declaration
 load_main groups = func (codes "main") 1 [] (block (map spawned_group (range_with_len 0 groups) ++ sync ∷ summed))
 
@@ -115,7 +115,7 @@ load_main groups = func (codes "main") 1 [] (block (map spawned_group (range_wit
 abbrev pub accounts : Declaration
 accounts = cell (codes "a") 1 64 (pos 1000)
 
--- the program of n transfers, which are drawn from state n on
+-- the program of `n` transfers, drawn from state `n` on
 abbrev pub load_tree : ℕ → List Declaration
 load_tree n =
     accounts

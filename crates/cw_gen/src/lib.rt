@@ -1,6 +1,5 @@
-//! The program of a load: a large valid input from a number.
-//! Stands on `cw_base`, `cw_io`, `cw_text` and `cw_strand`.
-//! Contracts cite `specs/Load.antt` (the tree of a load) and `specs/Worked.antt` (what a few draw, and how they are grouped).
+//! The program of a load: a large valid input, made from a number. Use it to measure or to try a run without a source.
+//! Contracts cite `specs/Load.antt` (the tree of a load) and `specs/Worked.antt` (what small loads draw, and how they are grouped).
 #![tactic(auto)]
 
 ghost use Rattle.std.specs.Prelude.{◌≡◌, ◌≤◌, ℕ, None, false};
@@ -15,7 +14,7 @@ mod pieces;
 
 pub use load::load_program;
 
-/// What small loads draw, and how they are grouped.
+/// Examples: what small loads draw, and how they are grouped.
 pub fn worked_loads()
     ensures { Loads }
 {}
@@ -30,7 +29,7 @@ pub fn loads_have_no_cancel()
     ensures { (n : ℕ) → has_cancel (load_tree n) ≡ false }
 {}
 
-/// Main of a load has no parameters.
+/// The main function of a load has no parameters.
 pub fn main_of_loads()
     ensures { (n : ℕ) → MainTakes (load_tree n) 0 }
 {}

@@ -17,7 +17,7 @@ fn number(value: u32) -> Expr
     Expr::Number(i64::from(value))
 }
 
-/// Spawns a call.
+/// Makes a statement that spawns a call.
 #[tactic(auto, using(crate::proofs::Blocks::inner_is))]
 fn spawned(alloc: Global, name: Word, args: Vec<Expr>) -> Result<Stmt, OutOfMemory>
     ensures { IfOk result (λ s. statement_of s ≡ spawn (block (run name (terms_of args.items) ∷ []))) }
@@ -27,7 +27,7 @@ fn spawned(alloc: Global, name: Word, args: Vec<Expr>) -> Result<Stmt, OutOfMemo
     Ok(Stmt::Spawn(body))
 }
 
-/// Spawns the transfer that is drawn next.
+/// Makes a statement that spawns the transfer drawn next.
 fn transfer(alloc: Global, draws: &mut Lcg) -> Result<Stmt, OutOfMemory>
     ensures drawn { OnOk result (draws.new ≡ after_transfer draws.old) }
     ensures call { IfOk result (λ s. statement_of s ≡ spawned_transfer (transfer_from draws.old)) }
@@ -42,7 +42,7 @@ fn transfer(alloc: Global, draws: &mut Lcg) -> Result<Stmt, OutOfMemory>
     spawned(alloc, word(alloc, b"t")?, args)
 }
 
-/// So many transfers.
+/// Makes the statements of `count` transfers.
 fn transfers(alloc: Global, draws: &mut Lcg, count: u32) -> Result<Vec<Stmt>, OutOfMemory>
     ensures drawn { OnOk result (draws.new ≡ state_after count draws.old) }
     ensures calls { IfOk result (λ body. map statement_of body.items ≡ map spawned_transfer (transfers count draws.old)) }
@@ -54,7 +54,7 @@ fn transfers(alloc: Global, draws: &mut Lcg, count: u32) -> Result<Vec<Stmt>, Ou
     Ok(body)
 }
 
-/// The name of a group.
+/// Returns the name of a group.
 #[tactic(auto, using(crate::proofs::Names::group_name_is_ascii))]
 fn group_name(alloc: Global, group: u32) -> Result<Text, OutOfMemory>
     ensures { IfOk result (λ name. name ≡ group_name group) }
@@ -63,7 +63,7 @@ fn group_name(alloc: Global, group: u32) -> Result<Text, OutOfMemory>
     Text::from_ascii(alloc, name.as_bytes())
 }
 
-/// A group of so many transfers.
+/// Makes the function of a group of `count` transfers.
 #[tactic(auto, using(crate::proofs::Blocks::block_is))]
 fn group(alloc: Global, draws: &mut Lcg, group: u32, count: u32) -> Result<Item, OutOfMemory>
     ensures drawn { OnOk result (draws.new ≡ state_after count draws.old) }
@@ -80,7 +80,7 @@ fn group(alloc: Global, draws: &mut Lcg, group: u32, count: u32) -> Result<Item,
     })
 }
 
-/// So many groups have so many transfers.
+/// Returns the number of groups for `count` transfers.
 fn group_count(count: u32) -> u32
     requires { count ≤ 20000 }
     ensures { result ≡ group_count count }
@@ -88,7 +88,7 @@ fn group_count(count: u32) -> u32
     (count + 15) / 16
 }
 
-/// All groups of so many transfers.
+/// Adds the functions of all groups for `count` transfers.
 fn push_groups(alloc: Global, items: &mut Vec<Item>, count: u32) -> Result<(), OutOfMemory>
     requires { count ≤ 20000 }
     ensures { OnOk result (map declaration_of items.new.items ≡
@@ -172,7 +172,7 @@ fn sums(alloc: Global) -> Result<Stmt, OutOfMemory>
     Ok(Stmt::While { test, body })
 }
 
-/// Adds to main's body the sum of all accounts, which is put out.
+/// Adds to main's body the statements that sum all accounts and output the sum.
 fn push_sum(alloc: Global, body: &mut Vec<Stmt>) -> Result<(), OutOfMemory>
     ensures { OnOk result (map statement_of body.new.items ≡ map statement_of body.old.items ++ summed) }
 {
@@ -183,7 +183,7 @@ fn push_sum(alloc: Global, body: &mut Vec<Stmt>) -> Result<(), OutOfMemory>
     Ok(())
 }
 
-/// Adds to main's body the spawned calls of so many groups.
+/// Adds to main's body the spawned calls of `groups` groups.
 fn push_calls(alloc: Global, body: &mut Vec<Stmt>, groups: u32) -> Result<(), OutOfMemory>
     ensures { OnOk result (map statement_of body.new.items ≡ map statement_of body.old.items ++ map spawned_group (range_with_len 0 groups)) }
 {
@@ -197,7 +197,7 @@ fn push_calls(alloc: Global, body: &mut Vec<Stmt>, groups: u32) -> Result<(), Ou
     Ok(())
 }
 
-/// `fn main() { .. }`, with so many groups.
+/// `fn main() { .. }`, with `groups` groups.
 #[tactic(auto, using(crate::proofs::Blocks::block_is))]
 fn main_function(alloc: Global, groups: u32) -> Result<Item, OutOfMemory>
     ensures { IfOk result (λ item. declaration_of item ≡ load_main groups) }
@@ -216,10 +216,10 @@ fn main_function(alloc: Global, groups: u32) -> Result<Item, OutOfMemory>
     })
 }
 
-/// The program of so many transfers between 64 accounts of 1,000 each, from 1 to 20,000 of them. A transfer is drawn by three draws of a
-/// generator that begins with their number: the account that it is from and the one that it is to, each modulo 64, and the amount modulo
-/// 100. Each 16 of them, and what is left, are a function that spawns them; main spawns these functions, waits, and puts out the sum of all
-/// accounts. Every line is 1, and so is the language. The only error is want of memory.
+/// Makes the program of `count` transfers between 64 accounts of 1,000 each. A generator that begins with `count` draws three
+/// numbers for each transfer: the account that pays and the one that receives, each modulo 64, and the amount modulo 100. Each 16
+/// transfers have a function that spawns them, and so has the remainder. Main spawns these functions, waits, and outputs the sum of
+/// all accounts. Every line is 1, and so is the language. The only error is out of memory.
 pub fn load_program(alloc: Global, count: u32) -> Result<Ast, OutOfMemory>
     requires some { 1 ≤ count }
     requires most { count ≤ 20000 }

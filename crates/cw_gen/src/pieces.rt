@@ -24,7 +24,7 @@ pub(crate) fn named(alloc: Global, text: &[u8]) -> Result<Expr, OutOfMemory>
     Ok(Expr::Name(word(alloc, text)?))
 }
 
-/// The account of this name's number.
+/// Makes the expression `a[NAME]`.
 pub(crate) fn account(alloc: Global, text: &[u8]) -> Result<Expr, OutOfMemory>
     requires { All (λ b. b < 128) text.now }
     ensures { IfOk result (λ e. term_of e ≡ account text.now) }
@@ -42,7 +42,7 @@ pub(crate) fn binary(alloc: Global, op: Op, left: Expr, right: Expr) -> Result<E
     Ok(Expr::Binary { op, left, right })
 }
 
-/// Adds x to an account, or takes it from there.
+/// Makes the statement `a[NAME] = a[NAME] OP x;`.
 pub(crate) fn changed(alloc: Global, text: &[u8], op: Op) -> Result<Stmt, OutOfMemory>
     requires { All (λ b. b < 128) text.now }
     ensures { IfOk result (λ s. statement_of s ≡ changed text.now op) }
