@@ -1,5 +1,5 @@
--- How the words behind a command are read: as the options that they give, each with its value, and the words that belong to
--- no option. And the numbers, and the lists of numbers, that options and words spell.
+-- How the words behind a command are read: as the options that they give, each with its value, and the words that belong to no
+-- option. And the numbers, and lists of numbers, that options and words spell.
 use Rattle.std.specs.Prelude.{ℕ, ℤ, pos, neg_ℤ, ◌-◌, ◌^◌, ◌==◌, ◌&&◌, Bool, not, List, [], ◌∷◌, length, drop, Option, Some, None, if◌then◌else◌, codes, nat_eq, nat_le, option_and_then, option_map}
 use Rattle.std.specs.List.{after_first, before_first, list_all, list_any, starts_with}
 use Rattle.std.specs.Str.{all_ascii_digits, bytes_eq, byte}
@@ -11,7 +11,7 @@ use Rattle.std.specs.Str.Parse.{digits_value}
 abbrev pub GivenOption : Type 0
 GivenOption = List ℕ × List ℕ
 
--- what words give: options, and the words that belong to none
+-- what words give: options, and the words that belong to no option
 pub record Given : Type 0 where
   pub options : List GivenOption
   pub words : List (List ℕ)
@@ -37,9 +37,9 @@ is_equals c = c == byte "="
 abbrev pub only_words : List (List ℕ) → Given
 only_words ws = record { options = []; words = ws }
 
--- What words give. An option is `--name=value`, or `--name` with the value as the next word, which may then not begin with a
--- hyphen. A word without a hyphen in front belongs to no option; nor does any word behind the first `--`. Here `name` is that of the
--- option whose value is still to come, if there is one.
+-- What words give. An option is `--name=value`, or `--name` with the value as the next word, which then may not begin with a
+-- hyphen. A word that does not begin with a hyphen belongs to no option; nor does any word behind the first `--`. Here `name` is
+-- the option whose value is still to come, if there is one.
 abbrev pub given_on : (name : Option (List ℕ)) → List (List ℕ) → Option Given
 given_on None [] = Some (only_words [])
 given_on (Some name) [] = None
@@ -57,20 +57,20 @@ given ws = given_on None ws
 
 -- ## Numbers
 
--- the number within these bounds that a text spells, which is one decimal digit or more, and nothing else
+-- the number within these bounds that a text spells, with one decimal digit or more and nothing else
 abbrev pub number_within : (least most : ℕ) → List ℕ → Option ℕ
 number_within least most [] = None
 number_within least most (d ∷ ds) =
     let n = digits_value 10 (d ∷ ds) in
     if all_ascii_digits (d ∷ ds) && nat_le least n && nat_le n most then Some n else None
 
--- The integer of 64 bits that a word spells: one decimal digit or more, with or without a hyphen in front.
+-- The 64-bit integer that a word spells: one decimal digit or more, with or without a hyphen in front.
 abbrev pub integer_of : List ℕ → Option ℤ
 integer_of w =
     if has_hyphen w then option_map (λ n. neg_ℤ (pos n)) (number_within 0 (2 ^ 63) (drop 1 w))
     else option_map pos (number_within 0 (2 ^ 63 - 1) w)
 
--- the integers that words spell, if each of them spells one
+-- the integers that the words spell, if each spells one
 abbrev pub integers_of : List (List ℕ) → Option (List ℤ)
 integers_of [] = Some []
 integers_of (w ∷ ws) = option_and_then (λ n. option_map (λ ns. n ∷ ns) (integers_of ws)) (integer_of w)
@@ -80,40 +80,40 @@ integers_of (w ∷ ws) = option_and_then (λ n. option_map (λ ns. n ∷ ns) (in
 abbrev pub is_comma : ℕ → Bool
 is_comma c = c == byte ","
 
--- a byte in front of the first part
+-- a byte put in front of the first part
 abbrev pub in_front : ℕ → List (List ℕ) → List (List ℕ)
 in_front c [] = (c ∷ []) ∷ []
 in_front c (p ∷ ps) = (c ∷ p) ∷ ps
 
--- the parts of a text that its commas keep apart: one part more than it has commas
+-- the parts of a text between its commas: one part more than it has commas
 abbrev pub parts_of : List ℕ → List (List ℕ)
 parts_of [] = [] ∷ []
 parts_of (c ∷ cs) = if is_comma c then [] ∷ parts_of cs else in_front c (parts_of cs)
 
--- the numbers below this one that texts spell, if each of them spells one
+-- the numbers below `limit` that the texts spell, if each spells one
 abbrev pub numbers_below : (limit : ℕ) → List (List ℕ) → Option (List ℕ)
 numbers_below limit [] = Some []
 numbers_below limit (v ∷ vs) = option_and_then (λ n. option_map (λ ns. n ∷ ns) (numbers_below limit vs)) (number_within 0 (limit - 1) v)
 
--- The list that a text spells: numbers below this one, with commas between them, at most so many.
+-- The list that a text spells: at most `most` numbers below `limit`, with commas between them.
 abbrev pub list_below : (limit most : ℕ) → List ℕ → Option (List ℕ)
 list_below limit most v = if nat_le (length (parts_of v)) most then numbers_below limit (parts_of v) else None
 
 -- ## One word
 
--- the one word that belongs to no option, where there is exactly one
+-- the one word that belongs to no option, if there is exactly one
 abbrev pub sole_word : List (List ℕ) → Option (List ℕ)
 sole_word (w ∷ []) = Some w
 sole_word ws = None
 
 -- ## The value of an option
 
--- the values that an option of this name is given
+-- the values given to an option of this name
 abbrev pub values_of : (name : List ℕ) → List GivenOption → List (List ℕ)
 values_of name [] = []
 values_of name (o ∷ os) = if bytes_eq o.0 name then o.1 ∷ values_of name os else values_of name os
 
--- An option has one value at most.
+-- An option has at most one value.
 abbrev pub one_of : List (List ℕ) → Option (Option (List ℕ))
 one_of [] = Some None
 one_of (v ∷ []) = Some (Some v)
@@ -122,8 +122,7 @@ one_of (v ∷ w ∷ vs) = None
 abbrev pub option_value : (name : List ℕ) → List GivenOption → Option (Option (List ℕ))
 option_value name os = one_of (values_of name os)
 
--- an option whose value is a number: its name, the least number that it may be, the greatest, and the one that stands for it where it is
--- not given
+-- an option whose value is a number: its name, its least value, its greatest value, and its default
 pub record NumberOption : Type 0 where
   pub name : List ℕ
   pub least : ℕ

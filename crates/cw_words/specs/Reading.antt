@@ -7,7 +7,7 @@ use Rattle.cw_io.specs.declared.schedule.Schedule.{Schedule}
 use Rattle.cw_words.specs.Options.{Given, NumberOption, are_known, integers_of, number_given, sole_word, parts_of, option_value}
 use Rattle.cw_words.specs.Words.{limits_given, report_given, schedule_given, transfers_given}
 
--- the parts of what stands behind a comma, if there is one
+-- the parts of the text behind a comma, if there is one
 abbrev pub parts_behind : Option (Bor (List ℕ)) → List (List ℕ)
 parts_behind None = []
 parts_behind (Some text) = parts_of text.now
@@ -16,7 +16,7 @@ parts_behind (Some text) = parts_of text.now
 abbrev pub option_text : Option (Option (Bor (List ℕ))) → Option (Option (List ℕ))
 option_text = option_map (option_map (λ v. v.now))
 
--- ## Of what words give, if they can be read
+-- ## What is asked of the words, if they can be read
 
 abbrev pub known_in : (names : List (List ℕ)) → Option Given → Bool
 known_in names g = option_map_or (λ h. are_known names h.options) g false

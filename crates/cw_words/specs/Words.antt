@@ -1,5 +1,5 @@
--- Which words are a command, and what they say. There are three: `run` has six options, `sim` has nine, and both have the words of main; `load`
--- has one, and a number.
+-- Which words are a command, and what they say. There are three commands. `run` has six options and `sim` has nine, and both have
+-- the words of main. `load` has one option and a number.
 use Rattle.std.specs.Prelude.{◌-◌, ◌^◌, Bool, true, false, List, [], ◌∷◌, ℕ, ℤ, Option, Some, None, codes, if◌then◌else◌, map, option_and_then, option_map, string_bytes, String}
 use Rattle.std.specs.declared.alloc.Global.{Global}
 use Rattle.std.specs.Str.{bytes_eq}
@@ -18,11 +18,11 @@ fuel_option = record { name = codes "fuel"; least = 1; most = 10 ^ 9; default = 
 abbrev pub size_option : NumberOption
 size_option = record { name = codes "size"; least = 1; most = 10 ^ 7; default = 10 ^ 6 }
 
--- how many attempts a block or an access may have
+-- the most attempts that a block or an access may have
 abbrev pub aborts_option : NumberOption
 aborts_option = record { name = codes "aborts"; least = 1; most = 10 ^ 9; default = 100000 }
 
--- how many strands may have columns
+-- the most strands that may have columns
 abbrev pub strands_option : NumberOption
 strands_option = record { name = codes "strands"; least = 1; most = 10 ^ 6; default = 262144 }
 
@@ -46,14 +46,14 @@ load_options = codes "workers" ∷ []
 abbrev pub default_limits : Limits
 default_limits = record { fuel = fuel_option.default; size = size_option.default; aborts = aborts_option.default; strands = strands_option.default; moves = moves_option.default }
 
--- The limits that options give. One that is not given, or that is no option of the command, has its default.
+-- The limits that options give. A limit that is not given, or that is no option of the command, has its default.
 abbrev pub limits_given : List GivenOption → Option Limits
 limits_given os =
     option_and_then (λ f. option_and_then (λ n. option_and_then (λ b. option_and_then (λ m. option_map (λ c.
     record { fuel = f; size = n; aborts = b; strands = m; moves = c })
     (number_given moves_option os)) (number_given strands_option os)) (number_given aborts_option os)) (number_given size_option os)) (number_given fuel_option os)
 
--- Whether a report is asked for. Its one value is 1, the number of its form.
+-- Whether a report is asked for. The option's one value is 1, the number of the report's format.
 abbrev pub report_in : (value : Option (List ℕ)) → Option Bool
 report_in None = Some false
 report_in (Some v) = option_map (λ n. true) (number_within 1 1 v)
@@ -63,12 +63,12 @@ report_given os = option_and_then report_in (option_value (codes "report") os)
 
 -- ## Schedules
 
--- so many workers may be listed
+-- the most workers that may be listed
 abbrev pub most_listed : ℕ
 most_listed = 20000
 
--- The schedule of so many workers by the values of its two options: a list of their numbers, or a seed, and not both; with neither the list
--- is empty.
+-- The schedule for `workers` workers, by the values of its two options: a list of worker numbers, or a seed. Both together are
+-- refused. Without either, the list is empty.
 abbrev pub schedule_in : (workers : ℕ) → (list seed : Option (List ℕ)) → Option Schedule
 schedule_in workers None None = Some (Listed [])
 schedule_in workers (Some v) None = option_map Listed (list_below workers most_listed v)
@@ -81,11 +81,11 @@ schedule_given workers os =
 
 -- ## Loads
 
--- so many transfers a load has at most
+-- the most transfers that a load has
 abbrev pub most_transfers : ℕ
 most_transfers = 20000
 
--- The one word that belongs to no option is the number of transfers.
+-- The number of transfers is the one word that belongs to no option.
 abbrev pub transfers_given : Given → Option ℕ
 transfers_given g = option_and_then (number_within 1 most_transfers) (sole_word g.words)
 
@@ -132,6 +132,6 @@ limits_of (Run words limits workers report) = limits
 limits_of (Sim words limits workers schedule report) = limits
 limits_of (Load transfers workers) = default_limits
 
--- the command that these words are, which come behind the program's name, if they are one
+-- the command that the words behind the program's name are, if they are one
 abbrev pub command_in : List (String Global) → Option Command
 command_in words = command_of (map string_bytes words)

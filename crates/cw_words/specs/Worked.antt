@@ -1,4 +1,4 @@
--- Worked words.
+-- Examples of words, and the commands that they are.
 use Rattle.std.specs.Prelude.{◌≡◌, ℕ, ℤ, pos, neg_ℤ, true, false, List, [], ◌∷◌, ◌++◌, Option, Some, None, codes, replicate}
 use Rattle.std.specs.List.{flat_map}
 use Rattle.cw_code.specs.declared.Limits.{Limits}
@@ -9,7 +9,7 @@ use Rattle.cw_words.specs.declared.command.Command.TheVariants.{Run, Sim, Load}
 use Rattle.cw_words.specs.Options.{list_below}
 use Rattle.cw_words.specs.Words.{command_of, default_limits}
 
--- a run of these limits; the others are those that no option has changed
+-- a run with this fuel and size; its other limits are the defaults
 abbrev pub run_of : (fuel size : ℕ) → Option Command
 run_of fuel size = Some (Run [] (record default_limits { fuel = fuel; size = size }) 4 false)
 
@@ -17,15 +17,15 @@ run_of fuel size = Some (Run [] (record default_limits { fuel = fuel; size = siz
 abbrev pub run_on : List ℤ → Option Command
 run_on words = Some (Run words default_limits 4 false)
 
--- a run of these limits, without words, by so many workers
+-- a run with these limits, without words, by `workers` workers
 abbrev pub run_by : Limits → (workers : ℕ) → Option Command
 run_by limits workers = Some (Run [] limits workers false)
 
--- a simulation of these limits, without words, by so many workers in the turns of a schedule
+-- a simulation with these limits, without words, by `workers` workers in the turns of a schedule
 abbrev pub sim_of : Limits → (workers : ℕ) → Schedule → Option Command
 sim_of limits workers schedule = Some (Sim [] limits workers schedule false)
 
--- so many workers of number 0, by commas, behind one more
+-- the list of `n + 1` zeros, with commas between them
 abbrev pub zeros : ℕ → List ℕ
 zeros n = codes "0" ++ flat_map {X = ℕ} (λ x. codes ",0") (replicate n 0)
 
@@ -58,7 +58,7 @@ pub record Commands : Type 0 where
   pub hyphen : command_of (codes "run" ∷ codes "--fuel" ∷ codes "--size" ∷ codes "4" ∷ []) ≡ None
   pub letter : command_of (codes "run" ∷ codes "--fuel=1a" ∷ []) ≡ None
   pub equals : command_of (codes "run" ∷ codes "--fuel==1" ∷ []) ≡ None
-  -- an option that is given twice, one that there is not, and one before the command
+  -- an option that is given twice, one that does not exist, and one before the command
   pub twice : command_of (codes "run" ∷ codes "--fuel" ∷ codes "1" ∷ codes "--fuel=1" ∷ []) ≡ None
   pub short : command_of (codes "run" ∷ codes "--fue" ∷ codes "1" ∷ []) ≡ None
   pub unknown : command_of (codes "run" ∷ codes "--worker" ∷ codes "1" ∷ []) ≡ None
@@ -112,7 +112,7 @@ pub record Simulations : Type 0 where
   pub many_strands : command_of (codes "sim" ∷ codes "--strands=1000001" ∷ []) ≡ None
   pub no_moves : command_of (codes "sim" ∷ codes "--moves=0" ∷ []) ≡ None
   pub many_moves : command_of (codes "sim" ∷ codes "--moves=1000000001" ∷ []) ≡ None
-  -- lists: of workers that are there, wherever their number is given
+  -- lists: of workers that exist, wherever the number of workers is given
   pub workers_before : command_of (codes "sim" ∷ codes "--workers=2" ∷ codes "--schedule=1" ∷ []) ≡ sim_of default_limits 2 (Listed (1 ∷ []))
   pub workers_behind : command_of (codes "sim" ∷ codes "--schedule=1" ∷ codes "--workers=2" ∷ []) ≡ sim_of default_limits 2 (Listed (1 ∷ []))
   pub workers_are_four : command_of (codes "sim" ∷ codes "--schedule=3,0" ∷ []) ≡ sim_of default_limits 4 (Listed (3 ∷ 0 ∷ []))
@@ -136,12 +136,12 @@ pub record Simulations : Type 0 where
   pub great_seed : command_of (codes "sim" ∷ codes "--seed=18446744073709551616" ∷ []) ≡ None
   pub both : command_of (codes "sim" ∷ codes "--seed=1" ∷ codes "--schedule=0" ∷ []) ≡ None
   pub both_other : command_of (codes "sim" ∷ codes "--schedule" ∷ codes "0" ∷ codes "--seed" ∷ codes "1" ∷ []) ≡ None
-  -- a report: its one value is 1
+  -- a report: the option's one value is 1
   pub report : command_of (codes "sim" ∷ codes "--report" ∷ codes "1" ∷ []) ≡ Some (Sim [] default_limits 4 (Listed []) true)
   pub run_report : command_of (codes "run" ∷ codes "--report=01" ∷ []) ≡ Some (Run [] default_limits 4 true)
   pub other_report : command_of (codes "run" ∷ codes "--report" ∷ codes "2" ∷ []) ≡ None
   pub no_report : command_of (codes "sim" ∷ codes "--report=0" ∷ []) ≡ None
-  -- those of a run, too
+  -- options of a run, too
   pub run_workers : command_of (codes "run" ∷ codes "--workers" ∷ codes "1" ∷ []) ≡ run_by default_limits 1
   pub run_zeros : command_of (codes "run" ∷ codes "--workers=007" ∷ []) ≡ run_by default_limits 7
   pub run_most : command_of (codes "run" ∷ codes "--workers=64" ∷ codes "--aborts=1000000000" ∷ codes "--strands=1000000" ∷ [])
@@ -151,7 +151,7 @@ pub record Simulations : Type 0 where
   pub run_many_workers : command_of (codes "run" ∷ codes "--workers=65" ∷ []) ≡ None
   pub run_many_strands : command_of (codes "run" ∷ codes "--strands=1000001" ∷ []) ≡ None
   pub run_workers_twice : command_of (codes "run" ∷ codes "--workers" ∷ codes "4" ∷ codes "--workers=4" ∷ []) ≡ None
-  -- those of a simulation alone
+  -- options of a simulation only
   pub run_moves : command_of (codes "run" ∷ codes "--moves=1" ∷ []) ≡ None
   pub run_schedule : command_of (codes "run" ∷ codes "--schedule=0" ∷ []) ≡ None
   pub run_seed : command_of (codes "run" ∷ codes "--seed=1" ∷ []) ≡ None
@@ -164,7 +164,7 @@ pub record Loads : Type 0 where
   pub most : command_of (codes "load" ∷ codes "20000" ∷ codes "--workers" ∷ codes "64" ∷ []) ≡ Some (Load 20000 64)
   pub only_words : command_of (codes "load" ∷ codes "--" ∷ codes "5" ∷ []) ≡ Some (Load 5 4)
   pub capital : command_of (codes "Load" ∷ codes "5" ∷ []) ≡ None
-  -- numbers out of range, none, and two
+  -- numbers out of range, no number, and two
   pub zero : command_of (codes "load" ∷ codes "0" ∷ []) ≡ None
   pub many : command_of (codes "load" ∷ codes "20001" ∷ []) ≡ None
   pub negative : command_of (codes "load" ∷ codes "--" ∷ codes "-5" ∷ []) ≡ None

@@ -14,13 +14,13 @@ use cw_code::Limits;
 use cw_io::Schedule;
 use std::alloc::Global;
 
-// So many workers may be listed.
+// The most workers that may be listed.
 const MOST_LISTED: usize = 20_000;
 
-// So many transfers a load has at most.
+// The most transfers that a load has.
 const MOST_TRANSFERS: u64 = 20_000;
 
-// Whether a name is one of these.
+// Whether `name` is one of `names`.
 fn is_among(name: &str, names: &[&str]) -> bool
     ensures { result ≡ list_any (λ k. bytes_eq k name.now) (map (λ n. n.now) names.now) }
 {
@@ -32,7 +32,7 @@ fn is_among(name: &str, names: &[&str]) -> bool
     false
 }
 
-/// Whether words can be read, and each option that they give has one of these names.
+/// Whether the words can be read, and each option that they give has one of `names`.
 pub fn are_known(words: &[String], names: &[&str]) -> bool
     ensures { result ≡ known_in (map (λ n. n.now) names.now) (given (map string_bytes words.now)) }
 {
@@ -52,7 +52,7 @@ pub fn are_known(words: &[String], names: &[&str]) -> bool
     }
 }
 
-// The value that the option of this name is given, if it is given one. It may not be given twice.
+// Returns the value given to the option `name`, if one is given. It may not be given twice.
 fn value_of<'a>(words: &'a [String], name: &str) -> Option<Option<&'a str>>
     ensures { option_text result ≡ value_in name.now (given (map string_bytes words.now)) }
 {
@@ -76,7 +76,7 @@ fn value_of<'a>(words: &'a [String], name: &str) -> Option<Option<&'a str>>
     }
 }
 
-// The number that an option is given within these bounds, or the one that stands for it where it is not given.
+// Returns the number within these bounds given to the option `name`, or `default` if it is not given.
 fn number_of(words: &[String], name: &str, least: u64, most: u64, default: u64) -> Option<u64>
     requires least { least ≤ default }
     requires most { default ≤ most }
@@ -89,7 +89,7 @@ fn number_of(words: &[String], name: &str, least: u64, most: u64, default: u64) 
     }
 }
 
-/// The limits of a command that gives none.
+/// Returns the limits of a command that gives none.
 pub fn default_limits() -> Limits
     ensures { result ≡ default_limits }
 {
@@ -102,7 +102,7 @@ pub fn default_limits() -> Limits
     }
 }
 
-/// The limits that options give.
+/// Returns the limits that options give.
 pub fn limits_of(words: &[String]) -> Option<Limits>
     ensures { result ≡ limits_in (given (map string_bytes words.now)) }
 {
@@ -133,7 +133,7 @@ pub fn report_of(words: &[String]) -> Option<bool>
     }
 }
 
-/// The number of workers that options give.
+/// Returns the number of workers that options give.
 pub fn workers_of(words: &[String]) -> Option<u32>
     ensures some { IfSome result (λ n. 0 < n) }
     ensures exact { result ≡ number_asked workers_option (given (map string_bytes words.now)) }
@@ -147,7 +147,7 @@ fn listed(kept: Kept<u32>) -> Result<Schedule, OutOfMemory>
     Ok(Schedule::List(kept?))
 }
 
-// Where none is listed: a seed, or with neither the empty list.
+// Without `--schedule`: the seed, or an empty list if there is none either.
 fn unlisted(alloc: Global, seed: Option<&str>) -> Option<Result<Schedule, OutOfMemory>>
     ensures { (workers : ℕ) → Reads (schedule_by workers None (option_map (λ v. v.now) seed.entry)) result }
 {
@@ -157,7 +157,7 @@ fn unlisted(alloc: Global, seed: Option<&str>) -> Option<Result<Schedule, OutOfM
     }
 }
 
-/// The schedule of so many workers that options give: a list or a seed, and not both.
+/// Returns the schedule for `workers` workers that options give: a list or a seed, and not both.
 pub fn schedule_of(
     alloc: Global,
     words: &[String],
@@ -178,7 +178,7 @@ pub fn schedule_of(
     Some(listed(kept))
 }
 
-/// The integers that the words spell which belong to no option.
+/// Returns the integers that the words belonging to no option spell.
 pub fn integers_of(alloc: Global, words: &[String]) -> Option<Kept<i64>>
     ensures { Reads (integers_in (given (map string_bytes words.now))) result }
 {
@@ -197,7 +197,7 @@ pub fn integers_of(alloc: Global, words: &[String]) -> Option<Kept<i64>>
     }
 }
 
-// The one word that belongs to no option, where there is exactly one.
+// Returns the one word that belongs to no option, if there is exactly one.
 fn sole_word<'a>(words: &'a [String]) -> Option<&'a str>
     ensures { option_map (λ w. w.now) result ≡ sole_in (given (map string_bytes words.now)) }
 {
@@ -219,7 +219,7 @@ fn sole_word<'a>(words: &'a [String]) -> Option<&'a str>
     }
 }
 
-/// The number of transfers that the one word says which belongs to no option.
+/// Returns the number of transfers: what the one word that belongs to no option spells.
 pub fn transfers_of(words: &[String]) -> Option<u32>
     ensures { result ≡ transfers_asked (given (map string_bytes words.now)) }
 {

@@ -10,18 +10,18 @@ use cw_code::Limits;
 use cw_io::Schedule;
 use std::alloc::Global;
 
-/// What the words of a command ask for, and what they say of it.
+/// What a command asks for, with what its words say.
 #[derive(Drop)]
 pub enum Command {
-    /// Reads a program from the source, runs it with these words and limits by so many workers, and writes its result, and the report
-    /// where it is asked for.
+    /// Reads a program from the source, runs it with these words and limits by `workers` workers, and writes its result, and the
+    /// report if it is asked for.
     Run {
         words: Seq<i64>,
         limits: Limits,
         workers: u32,
         report: bool,
     },
-    /// The same by so many virtual workers, who move in the turns of this schedule.
+    /// Like `Run`, but with virtual workers, who move in the turns of `schedule`.
     Sim {
         words: Seq<i64>,
         limits: Limits,
@@ -29,7 +29,7 @@ pub enum Command {
         schedule: Schedule,
         report: bool,
     },
-    /// Reads nothing, runs a program of so many transfers by so many workers, and writes what they come to.
+    /// Reads nothing, runs a program of `transfers` transfers by `workers` workers, and writes a summary of it.
     Load {
         transfers: u32,
         workers: u32,
@@ -37,7 +37,7 @@ pub enum Command {
 }
 
 impl Command {
-    /// How many words main has.
+    /// Returns the number of main's words.
     pub fn word_count(&self) -> usize
         ensures { result ≡ length (words_of self.now) }
     {
@@ -48,7 +48,7 @@ impl Command {
     }
 }
 
-// The run that the words behind `run` ask for.
+// Returns the run that the words behind `run` ask for.
 fn run_with(alloc: Global, words: &[String]) -> Result<Option<Command>, OutOfMemory>
     ensures exact { IfOk result (λ c. c ≡ option_and_then run_given (given (map string_bytes words.now))) }
     ensures memory { OnErr result (IsSome (option_and_then run_given (given (map string_bytes words.now)))) }
@@ -77,7 +77,7 @@ fn run_with(alloc: Global, words: &[String]) -> Result<Option<Command>, OutOfMem
     }))
 }
 
-// The simulation that the words behind `sim` ask for.
+// Returns the simulation that the words behind `sim` ask for.
 fn sim_with(alloc: Global, words: &[String]) -> Result<Option<Command>, OutOfMemory>
     ensures exact { IfOk result (λ c. c ≡ option_and_then sim_given (given (map string_bytes words.now))) }
     ensures memory { OnErr result (IsSome (option_and_then sim_given (given (map string_bytes words.now)))) }
@@ -112,7 +112,7 @@ fn sim_with(alloc: Global, words: &[String]) -> Result<Option<Command>, OutOfMem
     }))
 }
 
-// The load that the words behind `load` ask for.
+// Returns the load that the words behind `load` ask for.
 fn load_with(words: &[String]) -> Option<Command>
     ensures { result ≡ option_and_then load_given (given (map string_bytes words.now)) }
 {
@@ -124,8 +124,7 @@ fn load_with(words: &[String]) -> Option<Command>
     Some(Command::Load { transfers, workers })
 }
 
-/// The command that these words are, which come behind the program's name, if they are one. Want of memory is told only of words
-/// that are one.
+/// Returns the command that the words behind the program's name are, if they are one. Returns out of memory only if they are one.
 pub fn command_of(alloc: Global, words: &[String]) -> Result<Option<Command>, OutOfMemory>
     ensures exact { IfOk result (λ c. c ≡ command_of (map string_bytes words.now)) }
     ensures memory { OnErr result (IsSome (command_of (map string_bytes words.now))) }

@@ -3,7 +3,7 @@ ghost use Rattle.cw_words.specs.Given.{AreFewer, Gives, given_in, given_by};
 
 use crate::options::option_of;
 
-/// Words that are still to be read. Where `--` was read before, none of them belongs to an option.
+/// Words that are still to be read. If `only` is true, `--` was read before, and none of them belongs to an option.
 #[derive(Clone, Copy)]
 pub struct Words<'a> {
     only: bool,
@@ -22,7 +22,7 @@ pub enum Next<'a> {
     Bad,
 }
 
-/// The words behind a command, before they are read.
+/// Returns the words behind a command, before they are read.
 pub fn words_behind<'a>(list: &'a [String]) -> Words<'a>
     ensures gives { given_by result ≡ given_in false (map string_bytes list.now) }
     ensures all { length result.list.now ≡ length list.now }
@@ -30,7 +30,7 @@ pub fn words_behind<'a>(list: &'a [String]) -> Words<'a>
     Words { only: false, list }
 }
 
-// Behind `--`.
+// Reads the first word behind `--`.
 fn next_only<'a>(list: &'a [String]) -> Next<'a>
     ensures gives { Gives (given_in true (map string_bytes list.now)) result }
     ensures fewer { AreFewer result (length list.now) }
@@ -47,7 +47,7 @@ fn next_only<'a>(list: &'a [String]) -> Next<'a>
     }
 }
 
-// Before `--`.
+// Reads the first word before `--`.
 fn next_option<'a>(list: &'a [String]) -> Next<'a>
     ensures gives { Gives (given_in false (map string_bytes list.now)) result }
     ensures fewer { AreFewer result (length list.now) }
@@ -81,7 +81,7 @@ fn next_option<'a>(list: &'a [String]) -> Next<'a>
     }
 }
 
-/// What the first of these words gives.
+/// Returns what the first of these words gives.
 pub fn next_of<'a>(words: Words<'a>) -> Next<'a>
     ensures gives { Gives (given_by words.entry) result }
     ensures fewer { AreFewer result (length words.entry.list.now) }

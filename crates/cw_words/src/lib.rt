@@ -1,7 +1,6 @@
-//! The words of the command line: which of them are a command, and what they say.
-//! Stands on `cw_base`, `cw_code` and `cw_io`.
-//! Contracts cite `specs/Words.antt` (which words are which command, from `specs/Options.antt`, how words give options). Private ones cite
-//! `specs/Given.antt` (how words are read one after another) and `specs/Reading.antt` (in passes).
+//! The words of the command line: which of them are a command, and what it says. Use it in a program that takes the same commands.
+//! Contracts cite `specs/Words.antt` (which words are which command) and, beneath it, `specs/Options.antt` (how words give
+//! options). Private ones cite `specs/Given.antt` (how words are read one after another) and `specs/Reading.antt` (in passes).
 #![tactic(auto)]
 
 mod asked;
@@ -14,7 +13,7 @@ ghost use Rattle.cw_words.specs.Worked.{Commands, Loads, Simulations};
 pub use asked::default_limits;
 pub use command::{Command, command_of};
 
-/// Worked words.
+/// Examples of words, and the commands that they are.
 pub fn worked_words()
     ensures runs { Commands }
     ensures simulations { Simulations }

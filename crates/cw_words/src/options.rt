@@ -6,10 +6,10 @@ ghost use Rattle.cw_words.specs.Reading.{parts_behind};
 use cw_base::{OutOfMemory, Seq};
 use std::alloc::Global;
 
-/// What was read, or want of memory, which stays: so it hides nothing behind it that is of no use.
+/// What was read, or out of memory. Reading goes on after that error, so that words which are no command are still found.
 pub type Kept<T> = Result<Seq<T>, OutOfMemory>;
 
-/// With one more.
+/// Adds `item` to what was read.
 pub fn with_one<T: Drop>(kept: Kept<T>, item: T) -> Kept<T>
     ensures { IfOk result (λ ns. IsOkAnd kept (λ ms. ns ≡ ms ++ item ∷ [])) }
 {
@@ -18,7 +18,7 @@ pub fn with_one<T: Drop>(kept: Kept<T>, item: T) -> Kept<T>
     Ok(items)
 }
 
-/// The option that a word begins, with its value and the words behind both. The word `--` begins none.
+/// Returns the option that `word` begins, with its value and the words behind both. The word `--` begins none.
 pub fn option_of<'a>(
     word: &'a str,
     behind: &'a [String],
@@ -43,7 +43,7 @@ pub fn option_of<'a>(
     Some((text, value, behind))
 }
 
-/// The number within these bounds that a value spells.
+/// Returns the number within these bounds that `value` spells.
 pub fn number_within(value: &str, least: u64, most: u64) -> Option<u64>
     ensures exact { result ≡ number_within least most value.now }
     ensures within { IfSome result (λ n. (least ≤ n) × (n ≤ most)) }
@@ -59,7 +59,7 @@ pub fn number_within(value: &str, least: u64, most: u64) -> Option<u64>
     Some(number)
 }
 
-/// The integer that a word spells.
+/// Returns the integer that `word` spells.
 pub fn integer_of(word: &str) -> Option<i64>
     ensures { result ≡ integer_of word.now }
 {
@@ -70,7 +70,7 @@ pub fn integer_of(word: &str) -> Option<i64>
     word.parse::<i64>().ok()
 }
 
-// The part of a text before its first comma, and what stands behind that comma.
+// Returns the part of a text before its first comma, and what comes behind that comma.
 fn first_part(text: &str) -> (&str, Option<&str>)
     ensures { parts_of text.now ≡ result.0.now ∷ parts_behind result.1 }
 {
@@ -80,7 +80,7 @@ fn first_part(text: &str) -> (&str, Option<&str>)
     }
 }
 
-/// The list that a text spells: numbers below this one, with commas between them, at most so many.
+/// Returns the list that `text` spells: at most `most` numbers below `limit`, with commas between them.
 pub fn list_below(alloc: Global, text: &str, limit: u32, most: usize) -> Option<Kept<u32>>
     requires { 0 < limit }
     ensures { Reads (list_below limit most text.now) result }
