@@ -1,4 +1,4 @@
--- Why there is no run, or why its text was not written, of each kind that the functions of this crate answer with.
+-- Why there is no run, or why its text was not written, for each kind of error that functions of this crate return.
 use Rattle.std.specs.Prelude.{◌≡◌, ℕ, List, Option, Some, IfSome}
 use Rattle.cw_text.specs.declared.fault.TextRefusal.{TextRefusal}
 use Rattle.cw_text.specs.declared.fault.TextRefusal.TheVariants as text
@@ -22,18 +22,18 @@ abbrev pub of_name : NameRefusal → Refusal
 of_name (naming.Name f) = refused.Name f
 of_name naming.OutOfMemory = refused.OutOfMemory
 
--- Want of memory is free. Reading stops else only where a read failed.
+-- Reading stops because a read failed, or because memory ran out, which needs no cause.
 abbrev pub WhyStopped : Stop → (read_failed : Type 0) → Type 0
 WhyStopped stop.OutOfMemory read_failed = Unit {0}
 WhyStopped stop.ReadFault read_failed = read_failed
 
--- Bytes are refused for their first fault, where no language after this one is read.
+-- Bytes are refused for their first fault, if no language after this one is read.
 abbrev pub WhyRefused : (language : ℕ) → Refusal → List ℕ → Type 0
 WhyRefused language refused.OutOfMemory bytes = Unit {0}
 WhyRefused language (refused.Text f) bytes = refusal language bytes ≡ Some (note.Text f)
 WhyRefused language (refused.Name f) bytes = refusal language bytes ≡ Some (note.Name f)
 
--- There is no run where reading stopped, where the bytes are refused, or where the words do not fit.
+-- There is no run if reading stopped, if the bytes are refused, if the words do not fit, or if memory ran out.
 abbrev pub WhyNoRun : (language : ℕ) → NoRun → (read_failed misfit : Type 0) (left : Option (List ℕ)) → Type 0
 WhyNoRun language no_run.OutOfMemory read_failed misfit left = Unit {0}
 WhyNoRun language (no_run.Stopped s) read_failed misfit left = WhyStopped s read_failed
@@ -49,7 +49,7 @@ note_of_refusal refused.OutOfMemory = note.Memory
 note_of_refusal (refused.Text f) = note.Text f
 note_of_refusal (refused.Name f) = note.Name f
 
--- what is said where there is no run
+-- the note if there is no run
 abbrev pub note_of : NoRun → Note
 note_of no_run.OutOfMemory = note.Memory
 note_of (no_run.Stopped s) = note_of_stop s

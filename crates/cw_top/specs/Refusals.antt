@@ -1,5 +1,5 @@
--- Why a source is refused: its text's first fault, or else its program's first naming fault. And what a source that is not refused
--- says: its program, and how many words that asks for.
+-- Why a source is refused: for its text's first fault, otherwise for its program's first naming fault. And what a source that is
+-- not refused says: its program, and the number of words that it asks for.
 use Rattle.std.specs.Prelude.{◌≡◌, ℕ, ℤ, List, length, Option, Some, None, Result, Ok, Err}
 use Rattle.cw_text.specs.declared.fault.TextFault.{TextFault}
 use Rattle.cw_text.specs.Syntax.{Source}
@@ -26,7 +26,7 @@ abbrev pub of_reading : Result Source TextFault → Option Note
 of_reading (Ok source) = note_of_fault (naming_fault source.items)
 of_reading (Err f) = Some (Text f)
 
--- why these bytes are refused, if they are, where no language after this one is read
+-- why these bytes are refused, if they are, and if no language after this one is read
 abbrev pub refusal : (language : ℕ) → List ℕ → Option Note
 refusal language bytes = of_reading (program language bytes)
 
@@ -34,7 +34,7 @@ refusal language bytes = of_reading (program language bytes)
 abbrev pub Spells : (language : ℕ) → List ℕ → Program → Type 0
 Spells language bytes p = (source : Source) × ((program language bytes ≡ Ok source) × IsProgramOf source.items p)
 
--- Main of the program that these bytes spell has so many parameters; 0 where it has no main.
+-- Main of the program that these bytes spell has `n` parameters; `n` is 0 if there is no main.
 abbrev pub AsksFor : (language : ℕ) → List ℕ → ℕ → Type 0
 AsksFor language bytes n = (source : Source) × ((program language bytes ≡ Ok source) × MainTakes source.items n)
 

@@ -1,5 +1,6 @@
--- The run that a command keeps: of which program, with which words and limits, and who did it. What depends on the command is a function of
--- it, with a case for words that are none; so a further command adds its cases, where it is not like the others, and changes no clause.
+-- The run that a command keeps: of which program, with which words and limits, and who did it. What depends on the command is a
+-- function of it, with a case for words that are no command. So a further command adds its cases where it differs from the others,
+-- and changes no clause.
 use Rattle.std.specs.Prelude.{◌≡◌, ◌≢◌, ◌<◌, ◌≤◌, ℕ, List, length, false, Option, Some, IfSome, IsSomeAnd}
 use Rattle.cw_io.specs.declared.schedule.Schedule.{Schedule}
 use Rattle.cw_code.specs.declared.program.Program.{Program}
@@ -22,20 +23,21 @@ use Rattle.cw_top.specs.Refusals.{Spells, newest_language}
 
 -- ## The command
 
--- There are workers, and a column for the first strand; each worker that is listed is one of them; and a load has from 1 to 20,000 transfers.
+-- There are workers, and a column for the first strand. Each worker that is listed is one of them. A load has from 1 to 20,000
+-- transfers.
 abbrev pub IsReady : Command → Type 0
 IsReady (Run words limits workers report) = (0 < workers) × (0 < limits.strands)
 IsReady (Sim words limits workers schedule report) = (0 < workers) × ListsWorkers schedule workers × (0 < limits.strands)
 IsReady (Load transfers workers) = (0 < workers) × (1 ≤ transfers) × (transfers ≤ most_transfers)
 
--- a command has more than one worker
+-- the command has more than one worker
 abbrev pub HasSeveralWorkers : Option Command → Type 0
 HasSeveralWorkers (Some (Run words limits workers report)) = 1 < workers
 HasSeveralWorkers (Some (Sim words limits workers schedule report)) = 1 < workers
 HasSeveralWorkers (Some (Load transfers workers)) = 1 < workers
 HasSeveralWorkers command = ⊥
 
--- a command has more than one worker, and they are threads
+-- the command has more than one worker, and they are threads
 abbrev pub HasSeveralThreads : Option Command → Type 0
 HasSeveralThreads (Some (Run words limits workers report)) = 1 < workers
 HasSeveralThreads (Some (Load transfers workers)) = 1 < workers
@@ -53,7 +55,7 @@ abbrev pub MayCancel : Command → Program → Type 0
 MayCancel (Sim words limits workers schedule report) p = Unit {0}
 MayCancel c p = cancels p.code ≡ false
 
--- A run of this command: of its program, which takes its words, with its words and limits. What is kept of it has its outputs, and is
+-- A run of this command: of its program, which takes its words, with its words and limits. It has its outputs, and its tree is
 -- numbered depth first.
 pub record IsRunBy (c : Command) (left : Option (List ℕ)) (r : Record) : Type 0 where
   pub program : IsItsProgram c left r.program
@@ -65,21 +67,21 @@ pub record IsRunBy (c : Command) (left : Option (List ℕ)) (r : Record) : Type 
   pub tree : IsNumbered r.tree
   pub numbered : IsNumberedDepthFirst r.tree
 
--- Only a command leaves a run, and it is its own.
+-- Only a command leaves a run, and that is its own.
 abbrev pub IsRunOf : Option Command → (left : Option (List ℕ)) → Record → Type 0
 IsRunOf command left r = IsSomeAnd command (λ c. IsRunBy c left r)
 
 -- ## Who did it
 
--- What workers on threads did. One alone was refused nothing and went depth first, to the end or to the first fault, and what is kept is
--- coherent and replays; of several its tree is put together of what strands did. There are no moves that could be spent.
+-- What workers on threads did. One worker had no refusals and went depth first, to the end or to the first fault; its record is
+-- coherent and replays. With several workers, the tree is put together from what strands did. No moves can be spent.
 pub record IsOfThreads (workers : ℕ) (r : Record) : Type 0 where
   pub one : workers ≡ 1 → IsOfOneWorker r
   pub several : workers ≢ 1 → IsOfBoard r
   pub moves : r.end ≢ Moves
 
--- The moves of so many workers did it, in the turns of a schedule, and it is their record, which is coherent and replays. If there is one
--- worker, nothing was refused, and unless its moves were spent the strands went depth first, to the end or to the first fault.
+-- The moves of `workers` workers did it, in the turns of a schedule. The run is their record, which is coherent and replays. With
+-- one worker nothing was refused. Unless its moves were spent, its strands went depth first, to the end or to the first fault.
 pub record IsOfMoves (workers : ℕ) (schedule : Schedule) (r : Record) : Type 0 where
   pub moves : IsRecordOf (simulation_of (job_of_record r) workers schedule) r
   pub coherent : IsCoherentRun r
@@ -87,7 +89,7 @@ pub record IsOfMoves (workers : ℕ) (schedule : Schedule) (r : Record) : Type 0
   pub one_worker : workers ≡ 1 → IsUnrefused r
   pub depth_first : workers ≡ 1 → HasEnded r.end → IsDepthFirst r
 
--- How a command's run is done: by so many threads, or by the moves of so many.
+-- How a command's run is done: by its number of threads, or by the moves of its virtual workers.
 abbrev pub IsDoneBy : Command → Record → Type 0
 IsDoneBy (Run words limits workers report) r = IsOfThreads workers r
 IsDoneBy (Sim words limits workers schedule report) r = IsOfMoves workers schedule r

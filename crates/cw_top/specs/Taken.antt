@@ -17,41 +17,42 @@ most_read None = 0
 most_read (Some (Load transfers workers)) = 0
 most_read (Some c) = most_bytes
 
--- so many reads of a command give no byte at most: one, after which it reads no more
+-- the most reads of a command that give no byte: one, after which it reads no more
 abbrev pub most_ends : Option Command → ℕ
 most_ends None = 0
 most_ends (Some (Load transfers workers)) = 0
 most_ends (Some c) = 1
 
--- A count rose by so much at most, and did not fall.
+-- A count rose by `most` at most, and did not fall.
 abbrev pub RisesAtMost : ℕ → (before after : ℕ) → Type 0
 RisesAtMost most before after = (before ≤ after) × (after ≤ before + most)
 
--- At most so many bytes were taken.
+-- At most `most` bytes were taken.
 abbrev pub TakesAtMost : ℕ → (old new : Option (List ℕ)) → Type 0
 TakesAtMost most old new = (bytes : List ℕ) × (length bytes ≤ most) × Takes old new bytes
 
--- So many bytes came, and stand behind those that were there.
+-- `count` bytes came, and follow those that were there.
 abbrev pub GivesOn : (left_old left_new : Option (List ℕ)) (old new : List ℕ) (count : ℕ) → Type 0
 GivesOn left_old left_new old new count = (bytes : List ℕ) × (length bytes ≡ count) × (new ≡ old ++ bytes) × Takes left_old left_new bytes
 
--- what a command has read where it ran: the whole source, or of a load nothing
+-- what a command has read if it ran: the whole source, or nothing for a load
 abbrev pub HasRead : Option Command → (old new : Option (List ℕ)) → Type 0
 HasRead None old new = ⊥
 HasRead (Some (Load transfers workers)) old new = TakesNothing old new
 HasRead (Some c) old new = RunsDry old new
 
--- A source is refused for this reason, where its bytes are told and no language after this one is read.
+-- A source is refused for this reason, if its bytes are known and no language after this one is read.
 abbrev pub IsRefusedIn : (language : ℕ) → Note → Option (List ℕ) → Type 0
 IsRefusedIn language n left = IfSome left (λ bytes. refusal language bytes ≡ Some n)
 
--- the same of the source of a command; words that are none, and a load, have no source
+-- The source of a command is refused for this reason. Words that are no command, and a load, have no source.
 abbrev pub IsRefusedFor : Option Command → Note → Option (List ℕ) → Type 0
 IsRefusedFor None n left = ⊥
 IsRefusedFor (Some (Load transfers workers)) n left = ⊥
 IsRefusedFor (Some c) n left = IsRefusedIn (newest_language c) n left
 
--- a source, with its bytes told, that a command accepts: it is not refused, and asks for as many words as the command has; a load accepts any
+-- A command accepts this source, whose bytes are known: it is not refused, and asks for as many words as the command has. A load
+-- accepts any source.
 abbrev pub Accepts : Option Command → Option (List ℕ) → Type 0
 Accepts None left = Unit {0}
 Accepts (Some (Load transfers workers)) left = Unit {0}

@@ -1,4 +1,4 @@
--- What was written: the text that a command owes for its run, which is none where the run disagrees with its replay.
+-- What was written: the text that a command owes for its run. There is none if the run disagrees with its replay.
 use Rattle.std.specs.Prelude.{◌≡◌, ◌==◌, ℕ, ℤ, pos, ◌+ℤ◌, List, [], ◌∷◌, ◌++◌, Bool, true, false, codes, length, Option, Some, None, if◌then◌else◌}
 use Rattle.std.specs.Fmt.{decimal, signed_decimal}
 use Rattle.cw_io.specs.Outside.{Appends, AppendsFront, KeepsTelling, TellsOn}
@@ -20,25 +20,25 @@ use Rattle.cw_top.specs.declared.telling.Telling.TheVariants.{Results, Summary}
 use Rattle.cw_top.specs.declared.outcome.Note.{Note}
 use Rattle.cw_top.specs.declared.outcome.Note.TheVariants as note
 
--- the report on a run, where it is asked for
+-- the report on a run, if it is asked for
 abbrev pub report_if : Bool → Record → List ℕ
 report_if true r = report_text r
 report_if false r = []
 
--- the text of a run: its result, and behind it the report
+-- the text of a run: its result, followed by the report
 abbrev pub text_by : (report : Bool) → Record → List ℕ
 text_by report r = run_text r ++ report_if report r
 
--- the sum of integers, however great
+-- the sum of integers, of any size
 abbrev pub sum_of_values : List ℤ → ℤ
 sum_of_values [] = pos 0
 sum_of_values (v ∷ vs) = v +ℤ sum_of_values vs
 
--- so many transfers were made, and this is what the cells have together
+-- the number of transfers that were made, and the sum of all cells
 abbrev pub summary_text : (transfers : ℕ) → (memory : List ℤ) → List ℕ
 summary_text n memory = line (codes "transfers " ++ decimal n) ++ line (codes "sum " ++ signed_decimal (sum_of_values memory)) ++ line (codes "end")
 
--- what is written of a load: its summary, or where it did not finish the one line of its end
+-- what is written for a load: its summary, or the one line of its end if it did not finish
 abbrev pub load_text_of : (transfers : ℕ) → List CellInfo → List Node → RecordEnd → List ℕ
 load_text_of n cells t (Finished memory outputs) = summary_text n memory
 load_text_of n cells t e = end_text cells t e
@@ -56,7 +56,7 @@ abbrev pub text_in : Telling → Record → List ℕ
 text_in (Results report) r = text_by report r
 text_in (Summary n) r = load_text n r
 
--- the same of a run that finished, with the result from what one memory comes to
+-- what a command writes of a finished run, with the result of one memory
 abbrev pub end_text_in : Telling → Record → (memory outputs : List ℤ) → List ℕ
 end_text_in (Results report) r memory outputs = finished_text r.program.cells memory outputs ++ report_if report r
 end_text_in (Summary n) r memory outputs = summary_text n memory
@@ -66,24 +66,24 @@ abbrev pub text_of_command : Option Command → Record → List ℕ
 text_of_command None r = []
 text_of_command (Some c) r = text_in (telling_of c) r
 
--- the same of a run that finished, from what one memory comes to
+-- the text that a command writes for a finished run, with the result of one memory
 abbrev pub text_of_end : Option Command → Record → (memory outputs : List ℤ) → List ℕ
 text_of_end None r memory outputs = []
 text_of_end (Some c) r memory outputs = end_text_in (telling_of c) r memory outputs
 
--- The text that is owed for what is kept: there is none without a run, and none with status 8.
+-- The text owed for the run that is kept. There is none without a run, and none with status 8.
 abbrev pub text_owed : (text : Record → List ℕ) → Option Record → (status : ℕ) → Option (List ℕ)
 text_owed text None status = None
 text_owed text (Some r) status = if status == 8 then None else Some (text r)
 
--- The text that is owed was written, or a front of it where the write failed; where none is, nothing was.
+-- The owed text was written, or a front of it if the write failed. If none is owed, nothing was written.
 abbrev pub Writes : (owed : Option (List ℕ)) → Note → (old new : Option (List ℕ)) → Type 0
 Writes None n old new = Appends old new []
 Writes (Some text) note.Write old new = AppendsFront old new text
 Writes (Some text) n old new = Appends old new text
 
--- A sink that says for how many more bytes it goes on telling took the text: where it goes on for so many and some more, what it told it
--- tells still, and it goes on for the rest. Where no text is owed, all is as before.
+-- A sink that tells what it got, and goes on telling for some number of bytes, took the text. If that number is at least the text's
+-- length, it still tells, and goes on for the rest of that number. If no text is owed, all is as before.
 abbrev pub StillTells : (owed : Option (List ℕ)) → (before after : ℕ → Type 0) → (old new : Option (List ℕ)) → Type 0
 StillTells None before after old new = TellsOn old new × ((n : ℕ) → before n → after n)
 StillTells (Some text) before after old new = KeepsTelling before after old new (length text)
@@ -92,7 +92,7 @@ StillTells (Some text) before after old new = KeepsTelling before after old new 
 abbrev pub end_of_one_memory : Record → SerialEnd
 end_of_one_memory r = end_under (job_of_record r) r.order
 
--- One memory, in the order that is kept, finishes, and what was written is the command's text of its outputs and of itself.
+-- One memory, in the order that is kept, finishes, and what was written is the command's text of its outputs and its cells.
 pub record WritesEndOfOneMemory (command : Option Command) (r : Record) (old new : Option (List ℕ)) : Type 0 where
   pub memory : List ℤ
   pub outputs : List ℤ

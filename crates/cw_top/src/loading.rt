@@ -11,7 +11,7 @@ use cw_compile::{NameRefusal, compile};
 use cw_gen::{load_program, loads_have_no_fault};
 use std::alloc::Global;
 
-/// The program of a load of so many transfers, compiled.
+/// Returns the compiled program of a load of `transfers` transfers.
 pub fn compiled_load(alloc: Global, transfers: u32) -> Result<Program, OutOfMemory>
     requires some { 1 ≤ transfers }
     requires most { transfers ≤ most_transfers }
@@ -19,7 +19,7 @@ pub fn compiled_load(alloc: Global, transfers: u32) -> Result<Program, OutOfMemo
     ensures cancels { IfOk result (λ p. cancels p.code ≡ false) }
 {
     let ast = load_program(alloc, transfers)?;
-    // a hint to the prover: no name is at fault
+    // A hint to the prover: no name is at fault.
     loads_have_no_fault();
     match compile(alloc, &ast) {
         Ok(program) => Ok(program),
@@ -28,7 +28,7 @@ pub fn compiled_load(alloc: Global, transfers: u32) -> Result<Program, OutOfMemo
     }
 }
 
-// The sum of some integers: it has room for as many as there may be.
+// Returns the sum of the values. It cannot overflow: there are fewer values than that needs.
 fn sum_of(values: &[i64]) -> i128
     ensures { result ≡ sum_of_values values.now }
 {
@@ -39,7 +39,7 @@ fn sum_of(values: &[i64]) -> i128
     sum
 }
 
-/// What a load of so many transfers comes to, where the cells hold this.
+/// Returns the text of a finished load: the number of transfers, and the sum of all cells.
 pub fn summary(alloc: Global, transfers: u32, memory: &[i64]) -> Result<Vec<u8>, OutOfMemory>
     ensures { IfOk result (λ text. text.items ≡ summary_text transfers memory.now) }
 {

@@ -8,7 +8,7 @@ pub enum Note {
     Nothing,
     /// The words are no command, or not as many as main has parameters.
     Usage,
-    /// Want of memory.
+    /// Out of memory.
     Memory,
     /// A read failed.
     Read,
@@ -20,12 +20,12 @@ pub enum Note {
     Name(NameFault),
 }
 
-/// What the top call answers: the program's exit status, why, and the run where there was one.
+/// The answer of the top call: the program's exit status, the reason for it, and the run if there was one.
 ///
 /// | Status | Meaning |
 /// |---|---|
 /// | 0 | the run finished, and its text was written |
-/// | 1 | want of memory; nothing was written |
+/// | 1 | out of memory, or on threads a failed test inside the board; nothing was written |
 /// | 2 | the words are no command, and nothing was read; or they are not as many as main has parameters; nothing was written |
 /// | 3 | a read failed; nothing was written |
 /// | 4 | a write failed; a front of the text was written |

@@ -16,10 +16,10 @@ use std::alloc::Global;
 // One more than a text may have.
 const MOST_BYTES: usize = 1_048_577;
 
-// So many bytes are asked for at most in one read.
+// The most bytes that one read asks for.
 const ROOM: usize = 8_192;
 
-// Reads on, at most as much as may still be read. Answers how many bytes came; 0 is the end.
+// Reads more bytes, at most as many as may still be read. Returns their number; 0 is the end.
 fn read_more<S: Source>(source: &mut S, bytes: &mut Vec<u8>) -> Result<usize, Stop>
     requires { length bytes.old.items < most_bytes }
     ensures later { S.faults source.old ≤ S.faults source.new }
@@ -38,7 +38,7 @@ fn read_more<S: Source>(source: &mut S, bytes: &mut Vec<u8>) -> Result<usize, St
     Ok(count)
 }
 
-// The bytes of a source up to its end, or the first of them, as many as are ever read.
+// Reads a source up to its end, or only its first 1,048,577 bytes if it has more.
 fn read_all<S: Source>(alloc: Global, source: &mut S) -> Result<Vec<u8>, Stop>
     ensures later { S.faults source.old ≤ S.faults source.new }
     ensures why { IfErr result (λ s. WhyStopped s (Rose (S.faults source.old) (S.faults source.new))) }
@@ -57,7 +57,7 @@ fn read_all<S: Source>(alloc: Global, source: &mut S) -> Result<Vec<u8>, Stop>
     Ok(bytes)
 }
 
-// The program that bytes spell, compiled.
+// Compiles the program that `bytes` spell.
 fn program_of(alloc: Global, bytes: &[u8], newest: u32) -> Result<Program, Refusal>
     requires { (newest ≡ 1) ⊎ (newest ≡ 2) }
     ensures spelled { IfOk result (λ p. Spells newest bytes.now p) }
@@ -69,7 +69,7 @@ fn program_of(alloc: Global, bytes: &[u8], newest: u32) -> Result<Program, Refus
     Ok(compile(alloc, &ast)?)
 }
 
-// The program that a source spells, where no language after this one is read.
+// Reads and compiles the program that a source spells, in a language up to `newest`.
 pub fn program_from<S: Source>(alloc: Global, source: &mut S, newest: u32) -> Result<Program, NoRun>
     requires { (newest ≡ 1) ⊎ (newest ≡ 2) }
     ensures later { S.faults source.old ≤ S.faults source.new }

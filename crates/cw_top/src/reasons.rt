@@ -34,7 +34,7 @@ impl From<Failed> for Stop {
     }
 }
 
-/// Why bytes were not read to a program.
+/// Why bytes did not give a program.
 #[derive(Clone, Copy)]
 pub enum Refusal {
     OutOfMemory,

@@ -28,7 +28,7 @@ use std::alloc::Global;
 use std::sync::Wait;
 use std::thread::Threads;
 
-// The newest language in which a command reads its source.
+// Returns the newest language in which a command reads its source.
 fn newest(command: &Command) -> u32
     ensures { result ≡ newest_language command.now }
 {
@@ -48,7 +48,7 @@ pub fn has_several_threads(command: &Command) -> bool
     }
 }
 
-// Runs a program on so many threads.
+// Runs a program on `workers` threads.
 fn run_on_threads<R: Threads + Wait + Sync, G: Gate>(
     rt: &R,
     alloc: Global,
@@ -72,7 +72,7 @@ fn run_on_threads<R: Threads + Wait + Sync, G: Gate>(
     run(rt, alloc, program, words, workers, limits, gate)
 }
 
-// Does what a command says of how its program is run.
+// Runs a program as a command says: on threads, or by the moves of virtual workers.
 fn done_by<R: Threads + Wait + Sync, G: Gate>(
     rt: &R,
     alloc: Global,
@@ -112,7 +112,7 @@ fn done_by<R: Threads + Wait + Sync, G: Gate>(
     }
 }
 
-// Runs a program as a command says: on threads, or by the moves of several virtual workers.
+// Like `done_by`, and shows that the record's tree is numbered.
 fn done<R: Threads + Wait + Sync, G: Gate>(
     rt: &R,
     alloc: Global,
@@ -133,12 +133,12 @@ fn done<R: Threads + Wait + Sync, G: Gate>(
     ensures done { IfOk result (IsDoneBy command) }
 {
     let kept = done_by(rt, alloc, command, program, gate)?;
-    // a hint to the prover: the root is a strand, and each other node has a smaller parent
+    // A hint to the prover: the root is a strand, and each other node has a smaller parent.
     let _ = kept.tree.nodes();
     Ok(kept)
 }
 
-// The program of a command: the one that the source spells, or that of a load, for which nothing is read.
+// Returns the program of a command: the one that the source spells, or that of a load, for which nothing is read.
 fn program_by<S: Source>(alloc: Global, command: &Command, source: &mut S) -> Result<Program, NoRun>
     requires { IsReady command.now }
     ensures later { S.faults source.old ≤ S.faults source.new }

@@ -21,9 +21,9 @@ use std::alloc::Global;
 /// What a command writes of its run.
 #[derive(Clone, Copy)]
 pub enum Telling {
-    /// Its result, and behind it the report where it is asked for.
+    /// Its result, followed by the report if it is asked for.
     Results { report: bool },
-    /// What a load of so many transfers comes to.
+    /// The summary of a load of `transfers` transfers.
     Summary { transfers: u32 },
 }
 
@@ -38,7 +38,7 @@ fn status_of_end(end: &RecordEnd) -> u8
     }
 }
 
-// The text of a run: its result, and behind it the report where it is asked for.
+// Returns the text of a run: its result, followed by the report if it is asked for.
 fn text_by(alloc: Global, run: &Record, report: bool) -> Result<Vec<u8>, cw_base::OutOfMemory>
     requires { IsTrue (is_strand run.now.tree (ending_strand run.now.end)) }
     ensures { IfOk result (λ text. text.items ≡ text_by report run.now) }
@@ -50,7 +50,7 @@ fn text_by(alloc: Global, run: &Record, report: bool) -> Result<Vec<u8>, cw_base
     Ok(text)
 }
 
-// The text of a load: what its transfers come to, or how it ended before.
+// Returns the text of a load: its summary, or how it ended if it did not finish.
 fn load_text(alloc: Global, run: &Record, transfers: u32) -> Result<Vec<u8>, cw_base::OutOfMemory>
     requires { IsTrue (is_strand run.now.tree (ending_strand run.now.end)) }
     ensures { IfOk result (λ text. text.items ≡ load_text transfers run.now) }
@@ -61,7 +61,7 @@ fn load_text(alloc: Global, run: &Record, transfers: u32) -> Result<Vec<u8>, cw_
     }
 }
 
-// The text of a run, told so.
+// Returns the text of a run, as `telling` says.
 fn text_in(alloc: Global, run: &Record, telling: Telling) -> Result<Vec<u8>, cw_base::OutOfMemory>
     requires { IsTrue (is_strand run.now.tree (ending_strand run.now.end)) }
     ensures { IfOk result (λ text. text.items ≡ text_in telling run.now) }
@@ -72,7 +72,7 @@ fn text_in(alloc: Global, run: &Record, telling: Telling) -> Result<Vec<u8>, cw_
     }
 }
 
-// Writes the text of a run, once it is made whole.
+// Writes the text of a run, after making the whole of it.
 fn write_run<K: Sink>(
     alloc: Global,
     run: &Record,
@@ -93,7 +93,7 @@ fn write_run<K: Sink>(
     Ok(write_all(sink, text.as_slice())?)
 }
 
-/// The reply where there is no run.
+/// Returns the reply if there is no run.
 pub fn without_run(why: NoRun) -> Reply
     ensures status { IsStatus result.kept result.status result.note }
     ensures note { result.note ≡ note_of why }
@@ -114,7 +114,7 @@ pub fn without_run(why: NoRun) -> Reply
     }
 }
 
-// The reply on a run that replays, whose text is to be written.
+// Writes the text of a run that replays, and returns the reply.
 fn written<K: Sink>(alloc: Global, run: Record, telling: Telling, sink: &mut K) -> Reply
     requires { IsReplayed run }
     ensures later { K.faults sink.old ≤ K.faults sink.new }
@@ -139,7 +139,7 @@ fn written<K: Sink>(alloc: Global, run: Record, telling: Telling, sink: &mut K) 
     }
 }
 
-// Whether one memory does the same as a run. Only a run that nothing else says so of is checked.
+// Whether the run replays. One that is already known to replay is not checked.
 fn replays(alloc: Global, run: &Record, is_unsure: bool) -> Result<bool, cw_base::OutOfMemory>
     requires takes { TakesWords run.now.program (length run.now.words) }
     requires sure { is_unsure ≡ false → IsReplayed run.now }
@@ -154,7 +154,7 @@ fn replays(alloc: Global, run: &Record, is_unsure: bool) -> Result<bool, cw_base
     }
 }
 
-/// The reply on a run, whose text is written if one memory does the same.
+/// Writes the text of a run if it replays, and returns the reply.
 pub fn told<K: Sink>(
     alloc: Global,
     run: Record,

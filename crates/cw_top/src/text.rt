@@ -56,7 +56,7 @@ fn note_string(alloc: Global, note: &Note) -> Result<String, OutOfMemory>
     }
 }
 
-/// The text of a note: one line, or nothing for `Nothing`.
+/// Returns the text of a note: one line, or nothing for `Nothing`.
 pub fn note_text(alloc: Global, note: &Note) -> Result<Vec<u8>, OutOfMemory>
     ensures { IfOk result (λ text. text.items ≡ text_of_note note.now) }
 {

@@ -21,7 +21,7 @@ use std::alloc::Global;
 use std::sync::Wait;
 use std::thread::Threads;
 
-// What a command writes of its run.
+// Returns what a command writes of its run.
 fn telling_of(command: &Command) -> Telling
     ensures { result ≡ telling_of command.now }
 {
@@ -35,7 +35,7 @@ fn telling_of(command: &Command) -> Telling
     }
 }
 
-// What comes of a command.
+// Runs a command, and writes its text.
 fn ran<R: Threads + Wait + Sync, S: Source, K: Sink, G: Gate>(
     rt: &R,
     alloc: Global,
@@ -66,7 +66,7 @@ fn ran<R: Threads + Wait + Sync, S: Source, K: Sink, G: Gate>(
     }
 }
 
-// All that the top call does, once the words are read.
+// Does all that the top call does, once the words are read.
 fn answer<R: Threads + Wait + Sync, S: Source, K: Sink, G: Gate>(
     rt: &R,
     alloc: Global,
@@ -100,18 +100,19 @@ fn answer<R: Threads + Wait + Sync, S: Source, K: Sink, G: Gate>(
 }
 
 /// Does all that the program does. `words` are the command's words without the program's name. `run` and `sim` read a program from
-/// the source, run it with the words of main, and write its result (`result_text`) to the sink, with `--report 1` followed by the
-/// report on it (`report_text`): `run` by as many workers as `--workers` says, four where it does not, each on a thread of its own where one
-/// can be started, and one goes depth first; `sim` by the moves of so many virtual workers. These two have the options `--fuel`, `--size`, `--aborts` and `--strands`; `sim` has `--moves`, and `--schedule`
-/// or `--seed`, too. `load N` reads nothing: it runs the program of N transfers (`load_program`), from 1 to 20,000, as `run` does with the limits
-/// of a command that gives none, and writes N and what all cells have together; of the options it has `--workers`.
+/// the source, run it with the words of main, and write its result (`result_text`) to the sink; with `--report 1` the report on it
+/// follows (`report_text`). `run` has as many workers as `--workers` says, or four without that option. Each is on a thread of its
+/// own if one can be started; a single worker runs depth first. `sim` does the moves of that many virtual workers. Both have the
+/// options `--fuel`, `--size`, `--aborts` and `--strands`; `sim` also has `--moves`, and `--schedule` or `--seed`. `load N` reads
+/// nothing. It runs the program of N transfers (`load_program`), from 1 to 20,000, as `run` does with the default limits, and
+/// writes N and the sum of all cells. Its one option is `--workers`.
 ///
-/// A run of several threads is written only once one memory has done the same in its order; status 8 says that it did not. The gate is called
-/// by each of these threads before a look at the tasks of another, and before each try of a begin, an access or a commit.
+/// A run of several threads is written only once one memory has done the same in its order; status 8 says that it did not. Each of
+/// these threads calls the gate before it looks for a task of another one, and before each try of a begin, an access or a commit.
 ///
 /// The statuses are those of `Reply`. At most 1,048,577 bytes are read, one more than a text may have, and never more are asked
-/// for. Refusals are looked for in this order: words, read, text, names, number of words, run, write; want of memory may stand at
-/// any place behind the words.
+/// for. Errors are looked for in this order: words, read, text, names, number of words, run, write; memory may run out anywhere
+/// after the command line.
 pub fn cwstm<R: Threads + Wait + Sync, S: Source, K: Sink, G: Gate>(
     rt: &R,
     alloc: Global,
@@ -120,13 +121,13 @@ pub fn cwstm<R: Threads + Wait + Sync, S: Source, K: Sink, G: Gate>(
     sink: &mut K,
     gate: &G,
 ) -> Reply
-    // The status is that of the run that is kept, or else that of the note.
+    // The status is that of the run that is kept. Without a run it is that of the note.
     ensures status { IsStatus result.kept result.status result.note }
 
     // Each answer has its cause, by the command.
     ensures cause { HasCause (command_in words.now) result.note (S.left source.old) (Rose (S.faults source.old) (S.faults source.new)) (Rose (K.faults sink.old) (K.faults sink.new)) }
 
-    // Status 2 comes only where the words are of no use. Where they surely are, want of memory alone may come before it.
+    // Status 2 comes only if the words are of no use. If they surely are, only status 1 may come before it.
     ensures usage { result.status ≡ 2 → IsMisused (command_in words.now) (S.left source.old) }
     ensures misused { IsSurelyMisused (command_in words.now) (S.left source.old)
         → (Rose (S.faults source.old) (S.faults source.new) → ⊥) → MayBeMisusedWith (command_in words.now) result.status }
@@ -136,26 +137,27 @@ pub fn cwstm<R: Threads + Wait + Sync, S: Source, K: Sink, G: Gate>(
     ensures write_fault { result.status ≡ 4 → Rose (K.faults sink.old) (K.faults sink.new) }
     ensures refused { result.status ≡ 5 → IsRefusedFor (command_in words.now) result.note (S.left source.old) }
 
-    // A source that is refused gives status 5 and its first fault, unless a read fails; want of memory alone may come before it.
+    // A source that is refused gives status 5 and its first fault, unless a read fails. Only status 1 may come before it.
     ensures refuses { (fault : Note) → IsSurelyRefused (command_in words.now) (S.left source.old) fault
         → (Rose (S.faults source.old) (S.faults source.new) → ⊥) → IsRefusedWith fault result.status result.note }
     ensures complete { Accepts (command_in words.now) (S.left source.old)
         → (FailsToRead (command_in words.now) (Rose (S.faults source.old) (S.faults source.new)) → ⊥) → (Rose (K.faults sink.old) (K.faults sink.new) → ⊥)
         → MayEndWith (command_in words.now) result.status }
 
-    // What is kept is a run of the command, of what the source spells or of the program of a load. Of one thread it is the depth-first one, in
-    // which nothing is refused; of several its tree is put together of what strands did. Of `sim` it is the record of the moves of the command's workers, in the
-    // turns of its schedule: if there is one, nothing is refused either, and it is the depth-first one too, unless the moves were spent. One
-    // thread and every simulation are coherent.
+    // The run that is kept is one of the command: of what the source spells, or of the program of a load. With one thread it is the
+    // depth-first run, without refusals. With several its tree is put together from what strands did. For `sim` it is the record of
+    // the moves of the command's workers, in the turns of its schedule; with one worker that has no refusals either, and is the
+    // depth-first run unless the moves were spent. The runs of one thread and all simulations are coherent.
     ensures run { IfSome result.kept (IsRunOf (command_in words.now) (S.left source.old)) }
     ensures done { IfSome result.kept (IsDoneAs (command_in words.now)) }
     ensures whole { OnSome result.kept (HasRead (command_in words.now) (S.left source.old) (S.left source.new)) }
 
-    // One memory does the same, over the program's code and over its syntax tree, which the source spells or which is that of a load, but with status 8.
+    // Except with status 8, one memory does the same, over the program's code and over its syntax tree. That tree is spelled by the
+    // source, or is that of a load.
     ensures replays { result.status ≢ 8 → IfSome result.kept IsReplayed }
     ensures source { result.status ≢ 8 → IfSome result.kept (IsRunOfSource (command_in words.now) (S.left source.old)) }
 
-    // With status 8 it does not, and nothing was written or noted. It comes only of several threads.
+    // With status 8 it does not, and nothing was written or noted. Only several threads give status 8.
     ensures disagrees { result.status ≡ 8 → IsSomeAnd result.kept (λ r. IsReplayed r → ⊥) }
     ensures silent { result.status ≡ 8 → (result.note ≡ Nothing) × Appends (K.written sink.old) (K.written sink.new) [] }
     ensures threads { result.status ≡ 8 → HasSeveralThreads (command_in words.now) }
@@ -163,25 +165,28 @@ pub fn cwstm<R: Threads + Wait + Sync, S: Source, K: Sink, G: Gate>(
     // With status 0 the text of what one memory comes to was written.
     ensures finished { result.status ≡ 0 → IsSomeAnd result.kept (λ r. WritesEndOfOneMemory (command_in words.now) r (K.written sink.old) (K.written sink.new)) }
 
-    // With status 7 a strand spent its budget, and one memory comes to where it stands. In a simulation each of its attempts is kept.
+    // With status 7 a strand spent its budget, and one memory comes to where it stands. In a simulation each of its attempts is
+    // kept.
     ensures spent { result.status ≡ 7 → IsSomeAnd result.kept (IsSpentBy (command_in words.now)) }
 
-    // It comes only of several workers, and in a simulation of a source with a `spawn`.
+    // Only several workers give status 7, and in a simulation only a source with a `spawn`.
     ensures several { result.status ≡ 7 → HasSeveralWorkers (command_in words.now) }
     ensures spawns { result.status ≡ 7 → IsSpentOn (command_in words.now) (S.left source.old) }
 
-    // Status 9 comes exactly where all moves of a simulation were made without an end, and the text was written.
+    // Status 9 comes exactly if all moves of a simulation were made without an end, and the text was written.
     ensures moves { result.status ≡ 9 ↔ ((result.note ≡ Nothing) × IsSomeAnd result.kept (HasSpentMoves (command_in words.now))) }
 
     ensures unread { most_read (command_in words.now) ≡ 0 → TakesNothing (S.left source.old) (S.left source.new) }
     ensures taken { TakesAtMost (most_read (command_in words.now)) (S.left source.old) (S.left source.new) }
 
-    // Reading ends with the first read that gives no byte: at the end of the source, at a failure, or into an empty buffer.
-    // So the source is asked at most once at its end, and not again after it failed. Words that are no command, and a load, ask for nothing.
+    // Reading ends with the first read that gives no byte: at the end of the source, at a failure, or into an empty buffer. So the
+    // source is asked at most once at its end, and not again after it failed. Words that are no command, and a load, ask for
+    // nothing.
     ensures once { RisesAtMost (most_ends (command_in words.now)) (S.ends source.old) (S.ends source.new) }
     ensures written { Writes (text_owed (text_of_command (command_in words.now)) result.kept result.status) result.note (K.written sink.old) (K.written sink.new) }
 
-    // Unless a write failed, a sink that goes on telling for as many bytes as the text has, and some more, still tells, and goes on for the rest.
+    // Unless a write failed, a sink that goes on telling for at least as many bytes as the text has still tells, and goes on for
+    // the rest.
     ensures tells { (result.status ≡ 4 → ⊥) → StillTells (text_owed (text_of_command (command_in words.now)) result.kept result.status) (K.tells_for sink.old) (K.tells_for sink.new) (K.written sink.old) (K.written sink.new) }
 
     // Counts of faults never fall.
