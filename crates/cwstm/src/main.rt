@@ -1,6 +1,5 @@
-//! The program `cwstm`: hands the words of its command, standard input and standard output to the top call, says on
-//! standard error why it refused, and ends with the status.
-//! Stands on `cw_top` and `cw_io`.
+//! The program `cwstm`. It passes the words of its command, standard input and standard output to the top call, says on standard
+//! error why there was no run or no text, and exits with the status.
 #![tactic(auto)]
 
 use cw_io::{OpenGate, ReadSource, WriteSink};
@@ -9,7 +8,7 @@ use std::io::{ErrorKind, Write};
 use std::process::ExitCode;
 use std::{env, io};
 
-// The words of the command, without the program's name.
+// Returns the words of the command, without the program's name.
 fn words_of(rt: &HostRuntime) -> io::Result<Vec<String>> {
     let mut words = Vec::new(rt.alloc());
     for word in env::args(rt)?.skip(1) {
@@ -18,7 +17,7 @@ fn words_of(rt: &HostRuntime) -> io::Result<Vec<String>> {
     Ok(words)
 }
 
-// A word that is not UTF-8 is no word of any command.
+// Returns the answer to a word that is not UTF-8, which is no word of any command, or out of memory.
 fn without_words(error: &io::Error) -> (u8, Note) {
     if error.kind() == ErrorKind::OutOfMemory {
         return (1, Note::Memory);
@@ -26,7 +25,7 @@ fn without_words(error: &io::Error) -> (u8, Note) {
     (2, Note::Usage)
 }
 
-// Nothing else can be told of a write to standard error that fails.
+// Writes the note to standard error. A write that fails there cannot be reported.
 fn say(rt: &HostRuntime, note: &Note) {
     if let Ok(text) = note_text(rt.alloc(), note) {
         let _ = rt.stderr().write_all(text.as_slice());
