@@ -18,7 +18,7 @@ open_of (Second at around) = record { side = side.TheVariants.Second; strand = a
 abbrev pub opens : List Kept → List Open
 opens ks = reverse (map open_of ks)
 
--- how many logs the token of a right strand may come to have is its fork's number
+-- the most logs that a token may come to have: the number of its fork, or 2 ^ 40 for the root's
 abbrev pub logs_of : ℕ → ℕ
 logs_of zero = 2 ^ 40
 logs_of (suc n) = suc n
@@ -28,7 +28,7 @@ promise (Beside p at around) = p.fork
 promise (First right at twice) = 0
 promise (Second at around) = 0
 
--- how many logs were promised to right strands that are not joined yet
+-- the number of logs promised to right strands that are not joined yet
 abbrev pub promised : List Kept → ℕ
 promised ks = sum (map promise ks)
 
@@ -37,17 +37,17 @@ beside_number (side.TheVariants.Beside fork) = fork
 beside_number (side.TheVariants.First right) = 0
 beside_number side.TheVariants.Second = 0
 
--- the innermost fork has this number, and its right strand has a token of its own
+-- the innermost fork has the number `n`, and its right strand has a token of its own
 abbrev pub StandsBeside : List Open → ℕ → Type 0
 StandsBeside os n = (o : Open) × (rest : List Open) × (os ≡ o ∷ rest) × (is_inline o.side ≡ false) × (beside_number o.side ≡ n)
 
--- some conflict has this block for its victim
+-- this block is the victim of some conflict
 abbrev pub HasVictim : List Conflict → (begin : ℕ) → Type 0
 HasVictim cs b = (c : Conflict) × Contains cs c × (c.victim ≡ b)
 
 abbrev pub HasNoVictim : List Conflict → (begin : ℕ) → Type 0
 HasNoVictim cs b = All (λ c. c.victim ≡ b → ⊥) cs
 
--- some conflict of its logs has a pending block around its place for its victim
+-- a pending block around the token's place is the victim of some conflict in its logs
 abbrev pub Dies : Token → Type 0
 Dies x = (c : Conflict) × Contains (conflicts_in (logs x)) c × Fells x c

@@ -1,4 +1,4 @@
-//! What a board's calls ask of a token, looked up in it. Where memory is wanting, nothing is said to be met.
+//! Checks what a board's calls ask of a token. If memory runs out, a check answers false.
 ghost use Rattle.std.specs.Prelude.{◌≡◌, IsTrue, All, IfOk, MatchBool, IfSome, ℕ, true};
 ghost use Rattle.cw_code.specs.declared.FaultKind.{FaultKind};
 ghost use Rattle.cw_tree.specs.declared.closed.Halt.TheVariants.{Fault};
@@ -12,7 +12,7 @@ use cw_base::OutOfMemory;
 use cw_log::{Logs, Phase};
 use cw_tree::Conflict;
 
-/// Whether no conflict has the last attempt.
+/// Whether no conflict is from the last attempt.
 fn are_unspent(conflicts: &[Conflict], budget: u32) -> bool
     ensures { IsTrue result → All (λ c. c.attempt ≡ budget → ⊥) conflicts.now }
 {
@@ -26,7 +26,7 @@ fn all_unspent(logs: &Logs, budget: u32) -> bool
         .all(|log| are_unspent(log.conflicts.as_slice(), budget))
 }
 
-/// Whether some conflict has this block for its victim.
+/// Whether the block with this begin is the victim of some conflict.
 fn has_victim(conflicts: &[Conflict], begin: u64) -> bool
     ensures { MatchBool result (HasVictim conflicts.now begin) (HasNoVictim conflicts.now begin) }
 {
@@ -62,7 +62,7 @@ impl Kept {
         !matches!(self, Kept::Beside { .. })
     }
 
-    /// Whether it is kept of the left strand of this fork.
+    /// Whether it is kept of the left strand of `fork`.
     fn is_beside(&self, fork: u32) -> bool
         ensures { IsTrue result → (open_of self.now).side ≡ Beside fork }
     {
@@ -74,7 +74,7 @@ impl Kept {
 }
 
 impl StrandToken {
-    /// Whether a conflict of its logs has this block for its victim.
+    /// Whether the block with this begin is the victim of a conflict in the token's logs.
     fn fells(&self, begin: u64) -> bool
         ensures { MatchBool result (HasVictim (conflicts_in (logs self.now)) begin) (HasNoVictim (conflicts_in (logs self.now)) begin) }
     {
@@ -84,7 +84,7 @@ impl StrandToken {
         have_victim(&self.joined, begin)
     }
 
-    /// Whether a conflict of its logs has a block around its place for its victim.
+    /// Whether a block around the token's place is the victim of a conflict in its logs.
     fn dies(&self) -> Result<bool, OutOfMemory>
         ensures { IfOk result (λ b. MatchBool b (Dies self.now) (All (λ c. Fells self.now c → ⊥) (conflicts_in (logs self.now)))) }
     {
@@ -159,7 +159,7 @@ impl StrandToken {
         }
     }
 
-    /// Whether they are the tokens of the two strands of a fork.
+    /// Whether these are the tokens of the two strands of a fork.
     pub fn is_beside(&self, right: &StrandToken) -> bool
         ensures { IsTrue result → AreOfOneFork self.now right.now }
     {
@@ -181,7 +181,7 @@ impl StrandToken {
         self.phase == Phase::Going && self.place == self.strand && right.phase == Phase::Waiting
     }
 
-    /// The fork whose parts are to be merged.
+    /// Returns the fork whose parts have to be merged.
     pub fn owes(&self) -> Option<u32>
         ensures { IfSome result (λ fork. MayMerge self.now fork) }
     {

@@ -1,4 +1,4 @@
-//! A value that is known to two sides of a pair: one side goes through a deque to another thread and from there under a lock.
+//! A value that both sides of a pair know: one side goes through a deque to another thread, and from there under a lock.
 ghost use Rattle.std.specs.Prelude.{◌≡◌, ◌<◌, IfOk, IfSome, Some};
 
 use cw_base::OutOfMemory;
@@ -10,7 +10,7 @@ use std::sync::{Mutex, Wait};
 use std::thread;
 use std::thread::Threads;
 
-/// So often does a thief look before it gives up.
+/// The number of looks before a thief gives up.
 const LOOKS: u64 = 1_000_000_000;
 
 /// A value, with a half that stands for it.
@@ -32,7 +32,7 @@ fn forks<N: Naming>(
     (Side { value, half: left }, Side { value, half: right })
 }
 
-/// The values of two sides, if they are of one pair.
+/// Returns the values of two sides, if they belong to one pair.
 fn meets<N: Naming>(pairs: &Pairs<u32, N>, mine: Side<N>, other: Side<N>) -> Option<(u32, u32)>
     ensures { IfSome result (λ values. values.0 ≡ values.1) }
 {
@@ -82,7 +82,7 @@ fn crosses<N: Naming, R: Threads + Wait + Sync>(
     Ok(meets(&pairs, mine, other))
 }
 
-/// Both values of a pair of which one half went to another thread and back.
+/// Returns both values of a pair, one half of which went to another thread and back.
 pub fn there_and_back<R: Threads + Wait + Sync>(
     rt: &R,
     alloc: Global,

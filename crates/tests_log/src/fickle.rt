@@ -1,4 +1,4 @@
-//! A board that grants what it likes and refuses what it likes, by numbers that are drawn from a seed.
+//! A board that grants and refuses as it likes, by numbers drawn from a seed.
 ghost use Rattle.std.specs.Prelude.{◌≡◌, ◌<◌, ◌≤◌, ℤ, Option, [], IfOk, OnErr};
 ghost use Rattle.cw_log.specs.Answers.{Meets, IsAround};
 ghost use Rattle.cw_log.specs.Tokens.{root_token};
@@ -13,7 +13,7 @@ use std::alloc::Global;
 use std::sync::Wait;
 use std::sync::atomic::{AtomicU64, Ordering};
 
-/// How often, of a hundred times, an access is refused, a fork has one token, and another fork is to be split before.
+/// Chances in a hundred: that an access is refused, that a fork has one token, and that another fork has to be split first.
 #[derive(Clone, Copy, Drop)]
 pub struct Odds {
     pub refused: u64,
@@ -66,7 +66,7 @@ impl Fickle {
         self.clock.fetch_add(1, Ordering::SeqCst)
     }
 
-    /// A drawn number below a bound.
+    /// Draws a number below `below`.
     fn luck(&self, below: u64) -> u64
         requires { 0 < below }
         ensures { result < below }
@@ -79,7 +79,7 @@ impl Fickle {
         (mixed >> 33) % below
     }
 
-    /// A fork's number: how many logs its right strand may come to have, nearly all that there is room for.
+    /// Returns a fork's number, which is the most logs that its right strand may come to have: nearly all of `room`.
     fn number(&self, room: u64) -> u32
         requires { 1 < room }
         ensures some { 0 < result }
@@ -90,7 +90,7 @@ impl Fickle {
         (most - kept) as u32
     }
 
-    /// The begin stamp of a block around, or 0: whichever is drawn.
+    /// Draws a victim: the begin stamp of a block around the token's place, or 0.
     fn victim(&self, token: &StrandToken) -> Result<u64, OutOfMemory>
         ensures { IfOk result (λ v. IsAround token.now v) }
     {
@@ -116,7 +116,7 @@ impl Fickle {
         }
     }
 
-    /// Refuses an access: of the block around that is drawn, nothing else is said.
+    /// Refuses an access. The conflict has a drawn victim, and zeros for all that the board does not know.
     fn refuse(
         &self,
         token: &mut StrandToken,

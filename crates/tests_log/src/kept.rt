@@ -10,7 +10,7 @@ pub struct Spot {
     pub place: u32,
 }
 
-/// The blocks around a place, once for each time that the token comes back there.
+/// The blocks around a place, one copy for each time that the token comes back there.
 #[derive(Drop)]
 pub struct Twice {
     pub one: Stack<u64>,
@@ -18,7 +18,7 @@ pub struct Twice {
     ghost same: { other ≡ one },
 }
 
-/// The number of a fork.
+/// The number of a fork, which is not 0.
 #[derive(Clone, Copy, Drop)]
 pub struct Promise {
     pub fork: u32,

@@ -1,6 +1,6 @@
-//! What tests of running threads stand on: a board that grants and refuses as it likes, walks over it, a list that is written and read back,
-//! and a half of a pair that goes to another thread. What tries them stands in `tests_pool`, so that they are proved once.
-//! Stands on the parts that these are made of.
+//! Parts that tests of running threads share: a board that grants and refuses as it likes, walks over it, a list that is written
+//! and read by one thread, and a half of a pair that goes to another thread. The tests that run them are in `tests_pool`, so that
+//! these parts are proved once.
 #![tactic(auto)]
 
 mod conditions;

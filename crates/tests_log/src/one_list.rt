@@ -1,4 +1,4 @@
-//! A board for one thread, which keeps its values in one list: it refuses nothing, and its forks have one token.
+//! A board for one thread, which keeps its values in one list. It refuses nothing, and its forks have one token.
 ghost use Rattle.std.specs.Prelude.{◌≡◌, IfOk};
 ghost use Rattle.cw_log.specs.Tokens.{root_token};
 
@@ -12,7 +12,7 @@ use std::alloc::Global;
 use std::sync::Wait;
 use std::sync::atomic::{AtomicU64, Ordering};
 
-/// The board. A stamp is the number of those before it and one.
+/// The board. Stamps count from 1.
 #[derive(Drop)]
 pub struct OneList {
     cells: u32,
@@ -143,7 +143,7 @@ impl SharedBoard for OneList {
     }
 }
 
-/// What a cell holds after a write in a block, read in the right strand of a fork behind the block.
+/// Writes `value` to a cell in a block, forks behind the block, and returns what the right strand reads.
 pub fn read_back<R: Wait>(rt: &R, alloc: Global, value: i64) -> Result<Option<i64>, OutOfMemory> {
     let (board, mut token) = OneList::new(alloc, 2, 3)?;
     if token.goes(3) {

@@ -11,14 +11,14 @@ use cw_tree::{BlockState, Conflict, Halt, Kind, Node};
 use std::alloc::Global;
 use std::marker::Model;
 
-/// So many nodes may a log have.
+/// The most nodes of a log.
 const NODES: usize = 1 << 31;
 
-/// So many logs may the root's token come to have.
+/// The most logs that the root's token may come to have.
 const LOGS: u64 = 1 << 40;
 
-/// A token, with its logs. The number of a fork is how many logs the token of its right strand may come to have: so there are never
-/// more than a list takes.
+/// A token, with its logs. A fork's number is the most logs that the token of its right strand may come to have. So there are never
+/// more logs than a list holds.
 #[derive(Drop)]
 pub struct StrandToken {
     pub column: u32,
@@ -36,9 +36,9 @@ pub struct StrandToken {
     pub phase: Phase,
     pub stop: Option<Stop>,
     pub told: bool,
-    /// So many logs more may be joined to it.
+    /// The number of logs that may still be joined to it.
     pub room: u64,
-    /// For its own log, once it is joined to another.
+    /// Room for its own log in the list of the token to which it is joined.
     pub place_in_list: LogRoom,
 }
 
@@ -125,7 +125,7 @@ fn all_three(a: bool, b: bool, c: bool) -> bool
 }
 
 impl StrandToken {
-    /// The root's token.
+    /// Makes the root's token.
     pub fn root(alloc: Global) -> Result<StrandToken, OutOfMemory>
         ensures { IfOk result (λ t. t ≡ root_token) }
     {
@@ -152,7 +152,7 @@ impl StrandToken {
         })
     }
 
-    /// A node more in the token's place.
+    /// Adds a node in the token's place.
     pub fn make(&mut self, kind: Kind, stamp: u64) -> Result<(), OutOfMemory>
         ensures ok { OnOk result (self.new ≡ made self.old kind stamp) }
         ensures err { OnErr result (self.new ≡ self.old) }
@@ -162,7 +162,7 @@ impl StrandToken {
         Ok(())
     }
 
-    /// A block more, in which the token goes on.
+    /// Adds a block in the token's place, and goes on inside.
     pub fn begin(&mut self, stamp: u64) -> Result<(), OutOfMemory>
         ensures ok { OnOk result (self.new ≡ began self.old stamp) }
         ensures err { OnErr result (self.new ≡ self.old) }
@@ -179,7 +179,7 @@ impl StrandToken {
         Ok(())
     }
 
-    /// The block in the token's place ends.
+    /// Ends the block in the token's place.
     pub fn end(&mut self, state: BlockState, end: u64)
         ensures { self.new ≡ ended self.old state end }
     {
@@ -195,7 +195,7 @@ impl StrandToken {
         let _ = self.around.pop();
     }
 
-    /// An inline fork, in whose left strand the token goes on.
+    /// Adds an inline fork, and goes on in its left strand.
     pub fn branch(&mut self, stamp: u64) -> Result<(), OutOfMemory>
         ensures ok { OnOk result (self.new ≡ branched self.old stamp) }
         ensures err { OnErr result (self.new ≡ self.old) }
@@ -226,7 +226,7 @@ impl StrandToken {
         Ok(())
     }
 
-    /// From the left strand of an inline fork to its right one, and from there to the strand that forked.
+    /// Moves from the left strand of an inline fork to the right one, or from the right one to the strand that forked.
     pub fn turn(&mut self)
         requires { IsInline self.old }
         ensures { self.new ≡ turned self.old }
@@ -264,7 +264,7 @@ impl StrandToken {
         self.told = self.told || halted;
     }
 
-    /// A refused access more, with its conflict. The other conflict is answered, and is the same.
+    /// Adds a refused access, with its conflict.
     pub fn refuse(&mut self, conflict: Conflict) -> Result<(), OutOfMemory>
         ensures ok { OnOk result (self.new ≡ refused self.old conflict) }
         ensures err { OnErr result (self.new ≡ self.old) }
@@ -282,7 +282,7 @@ impl StrandToken {
         Ok(())
     }
 
-    /// The token of a right strand.
+    /// Makes the token of a right strand.
     fn right(&self, column: u32, fork: u32) -> Result<StrandToken, OutOfMemory>
         requires some { 0 < fork }
         requires few { length self.now.own.nodes < 2 ^ 31 }
@@ -316,7 +316,7 @@ impl StrandToken {
         self.room
     }
 
-    /// A fork, in whose left strand the token goes on, with the token of the right strand; or nothing where there is no room for it.
+    /// Adds a fork, goes on in its left strand, and returns the token of the right one. Changes nothing if there is no room for it.
     pub fn fork(&mut self, stamp: u64, fork: u32, column: u32) -> Result<StrandToken, OutOfMemory>
         requires { 0 < fork }
         ensures left { OnOk result (self.new ≡ forked self.old stamp fork) }
@@ -349,7 +349,7 @@ impl StrandToken {
         Ok(right)
     }
 
-    /// Its own log and the joined ones, with whether its fork was split.
+    /// Returns its own log and the joined ones, and what else a join needs.
     fn all_logs(self) -> (Logs, u32, bool, Option<Stop>, bool)
         ensures logs { result.0 ≡ self.own ∷ self.joined }
         ensures rest { (result.1 ≡ self.fork) × (result.2 ≡ self.split) × (result.3 ≡ self.stop) × (result.4 ≡ self.told) }
@@ -380,7 +380,7 @@ impl StrandToken {
         (all, fork, split, stop, told)
     }
 
-    /// Back to where the strand that forked stands, with the logs of the right strand's token.
+    /// Goes back to where the strand that forked stands, with the logs of the right strand's token.
     fn leave(&mut self, fork: u32, logs: Logs)
         requires beside { StandsBeside self.old.forks fork }
         requires few { length logs ≤ logs_of fork }
@@ -404,7 +404,7 @@ impl StrandToken {
         }
     }
 
-    /// The strand that forked, with the logs of both.
+    /// Joins the two strands of a fork. Returns the token of the strand that forked, with the logs of both.
     pub fn join(self, right: StrandToken) -> StrandToken
         requires { AreOfOneFork self right }
         ensures { result ≡ taken_in self right }
@@ -424,7 +424,7 @@ impl StrandToken {
         left
     }
 
-    /// Whether a stamp exceeds those of the blocks around and all that conflicts name.
+    /// Whether `stamp` exceeds those of the blocks around and of all victims of conflicts.
     pub fn is_before(&self, stamp: u64) -> Result<bool, OutOfMemory>
         requires { 0 < stamp }
         ensures { IfOk result (λ b. IsTrue b → IsLater self.now stamp) }

@@ -14,7 +14,7 @@ pub struct Values {
 }
 
 impl Values {
-    /// So many cells, each 0.
+    /// Makes `cells` cells, each 0.
     pub fn new(alloc: Global, cells: u32) -> Result<Values, OutOfMemory> {
         let mut list = Vec::new(alloc);
         for _ in 0..cells {
@@ -25,7 +25,7 @@ impl Values {
         })
     }
 
-    /// The value of a cell, after a write where there is one.
+    /// Writes to `cell` if a value is given, and returns the cell's value.
     pub fn access<R: Wait>(&self, rt: &R, cell: u32, write: Option<i64>) -> i64
         ensures { IsWritten write result }
     {
@@ -51,7 +51,7 @@ fn held_or(write: Option<i64>, held: i64) -> i64
     }
 }
 
-/// The node of an access.
+/// Returns the node kind of an access.
 pub fn access_kind(cell: u32, write: Option<i64>, value: i64) -> Kind
     ensures { result ≡ answers.kind_of_answer cell write value }
 {

@@ -1,4 +1,4 @@
-//! A walk over a board's calls: of those whose conditions hold, which is made next is drawn.
+//! A walk over a board's calls: it draws the next call from those whose conditions hold.
 ghost use Rattle.std.specs.Prelude.{◌≡◌, ◌<◌};
 ghost use Rattle.cw_log.specs.Tokens.{GoesFree};
 
@@ -15,10 +15,10 @@ use std::thread::Threads;
 
 const CELLS: u32 = 4;
 
-/// So many attempts may a block or an access have.
+/// The most attempts that a block or an access may have.
 const BUDGET: u32 = 100;
 
-/// So many calls does a strand make at most, those of forks and of its ends not counted, and so deep are forks in it.
+/// The most calls of a strand, not counting forks and the calls at its end; and the most forks in one another.
 const STEPS: u32 = 12;
 
 const DEPTH: u32 = 4;
@@ -38,7 +38,7 @@ pub struct Counts {
     pub halts: u64,
     /// The tokens of a fork's strands could not be joined, or a fork's parts not merged.
     pub stuck: u64,
-    /// Logs of the tokens of roots at the end.
+    /// The logs of the root's tokens at the end.
     pub logs: u64,
 }
 
@@ -102,7 +102,7 @@ impl Seen {
     }
 }
 
-/// How walks go: how many, each from a seed of its own; whether the strands of a fork that is split go on in two threads; and whether
+/// How walks go: their number, each from a seed of its own; whether both strands of a split fork run on two threads; and whether
 /// strands halt.
 #[derive(Clone, Copy, Drop)]
 pub struct Way {
@@ -111,7 +111,7 @@ pub struct Way {
     pub halts: bool,
 }
 
-/// What is drawn next.
+/// Draws the numbers of a walk.
 #[derive(Drop)]
 struct Draws {
     state: u64,
@@ -139,7 +139,7 @@ struct Walk<'a> {
 }
 
 impl<'a> Walk<'a> {
-    /// One call more, where one may be made that is none of a fork.
+    /// Makes one more call that concerns no fork, if one may be made.
     fn calls<R: Wait>(&self, rt: &R, token: &mut StrandToken, draws: &mut Draws) {
         if token.has_block() && token.goes_back(BUDGET) {
             self.board.roll(rt, token);
@@ -191,7 +191,7 @@ impl<'a> Walk<'a> {
         }
     }
 
-    /// From one strand of an inline fork to the next.
+    /// Moves from one strand of an inline fork to the next.
     fn turns(&self, token: &mut StrandToken) {
         if token.is_inline() && token.is_done() {
             self.board.next_branch(token);
@@ -281,7 +281,7 @@ impl<'a> Walk<'a> {
         is_split
     }
 
-    /// Both strands of a fork that is split.
+    /// Walks both strands of a fork that is split.
     #[cycle(strands)]
     fn beside<R: Threads + Wait + Sync>(
         &self,
@@ -304,7 +304,7 @@ impl<'a> Walk<'a> {
         self.joins(rt, left, right)
     }
 
-    /// The left strand of a fork that is not split, and where that goes on, the right one after it.
+    /// Walks the left strand of a fork that is not split and, if that one goes on, the right strand after it.
     #[cycle(strands)]
     fn after<R: Threads + Wait + Sync>(
         &self,
@@ -334,7 +334,7 @@ impl<'a> Walk<'a> {
         goes
     }
 
-    /// A strand, from where its token stands to its end, with forks in it as deep as this.
+    /// Walks a strand from where its token stands to its end, with at most `depth` forks in one another.
     #[cycle(strands)]
     fn walks<R: Threads + Wait + Sync>(
         &self,
@@ -357,7 +357,7 @@ impl<'a> Walk<'a> {
     }
 }
 
-/// Whether logs and that of the root, which has column 0, have columns that differ.
+/// Whether these logs and the root's, which has column 0, have different columns.
 fn are_apart(alloc: Global, logs: &Logs) -> Result<bool, OutOfMemory> {
     let mut columns = Vec::new(alloc);
     for log in logs.iter() {
@@ -368,7 +368,7 @@ fn are_apart(alloc: Global, logs: &Logs) -> Result<bool, OutOfMemory> {
     Ok(columns.windows(2).all(|pair| pair[0] < pair[1]))
 }
 
-/// Walks, each from a fresh root, and says what was met.
+/// Walks from a fresh root for each seed, and counts what was met.
 pub fn walked<R: Threads + Wait + Sync>(
     rt: &R,
     alloc: Global,
