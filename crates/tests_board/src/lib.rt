@@ -1,6 +1,5 @@
-//! Tests of the board by its public calls, and nothing else: they stand here and not with the board, so that it is proved once.
-//! Stands on the parts that they try.
-//! `specs/Led.antt` says what a test keeps of a strand that it leads.
+//! Tests of the board by its public calls. They are not with the board, so that the board is proved once.
+//! `specs/Led.antt` says what a test knows of a strand that it leads.
 #![tactic(auto)]
 
 #[cfg(test)]

@@ -1,4 +1,4 @@
-//! What a board's calls answer, by strands that a test leads.
+//! What a board's calls return, for strands that a test leads.
 mod led;
 mod rows;
 mod threads;

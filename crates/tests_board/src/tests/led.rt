@@ -1,5 +1,5 @@
-//! Strands that a test leads on a board. What a call asks is looked up in the token, or is known from the calls before; where it is not met, the
-//! answer is that of want of memory.
+//! Strands that a test leads on a board. What a call asks is looked up in the token, or known from the calls before. If it is not
+//! met, the test gets `OutOfMemory`.
 ghost use Rattle.std.specs.Prelude.{◌≡◌, ◌<◌, ◌∷◌, [], All, Contains, IsTrue, IfOk, OnOk, true, false, if◌then◌else◌};
 ghost use Rattle.cw_log.specs.declared.log.Above.{Above};
 ghost use Rattle.cw_log.specs.declared.token.Phase.TheVariants.{Going, Parted, Waiting};
@@ -21,7 +21,7 @@ use std::marker::{Brand, Model, PhantomData};
 use std::sync::Wait;
 use std::sync::ledger::{Blank, Ledger};
 
-/// A board whose table has this name.
+/// A board whose table is `N.table`.
 #[derive(Drop)]
 pub(super) struct Scene<N: Naming> {
     board: Board,
@@ -31,8 +31,8 @@ pub(super) struct Scene<N: Naming> {
     of: PhantomData<N>,
 }
 
-/// Where a strand stands: its number in its log, the fork as whose right strand its token began and whether that is split, what its token is
-/// for, and the forks in whose left strands it stands, each with the strand that waits.
+/// Where a strand stands: its number in its log, the fork as whose right strand its token began, whether that fork is split, the
+/// token's phase, and the forks in whose left strands it stands, each with the strand that waits.
 #[derive(Drop)]
 struct Stand {
     strand: u32,
@@ -43,7 +43,7 @@ struct Stand {
     strands: Stack<u32>,
 }
 
-/// A strand, with its token of the board whose table has this name. It has not stopped.
+/// A strand, with its token of the board whose table is `N.table`. It has not stopped.
 #[derive(Drop)]
 pub(super) struct Strand<N: Naming> {
     token: StrandToken,
@@ -75,7 +75,7 @@ impl<N: Naming> Model for Strand<N> {
     ghost invariant = { λ s. IsAt N.table N.columns s.token × IsLed (token_of s.token) s.stand.strand s.stand.fork s.stand.split s.stand.phase s.stand.forks s.stand.strands };
 }
 
-/// A strand that stands there.
+/// Makes a strand that stands there.
 fn strand_of<N: Naming>(token: StrandToken, stand: Stand) -> Strand<N>
     requires at { IsAt N.table N.columns token }
     requires led { IsLed (token_of token) stand.strand stand.fork stand.split stand.phase stand.forks stand.strands }
@@ -103,7 +103,7 @@ fn all_unspent(logs: &Logs, budget: u32) -> bool
         .all(|log| are_unspent(log.conflicts.as_slice(), budget))
 }
 
-/// Whether none of these blocks has this begin stamp.
+/// Whether no block has this begin stamp.
 fn is_none_of(begin: u64, blocks: &[Above]) -> bool
     ensures { IsTrue result → All (λ (a : Above). a.begin ≡ begin → ⊥) blocks.now }
 {
@@ -129,7 +129,7 @@ fn both(a: bool, b: bool) -> bool
     a && b
 }
 
-/// Whether no conflict of its logs has the last attempt.
+/// Whether no conflict in the token's logs is from the last attempt.
 fn is_unspent(token: &StrandToken, budget: u32) -> bool
     ensures { IsTrue result → All (λ c. c.attempt ≡ budget → ⊥) (conflicts_in (logs (token_of token.now))) }
 {
@@ -139,7 +139,7 @@ fn is_unspent(token: &StrandToken, budget: u32) -> bool
     )
 }
 
-/// Whether no conflict of its logs has a pending block around its place for its victim.
+/// Whether no pending block around the token's place is the victim of a conflict in its logs.
 fn is_free(token: &StrandToken) -> bool
     ensures { IsTrue result → All (λ c. Fells (token_of token.now) c → ⊥) (conflicts_in (logs (token_of token.now))) }
 {
@@ -172,7 +172,7 @@ fn has_victim(conflicts: &[Conflict], blocks: &[Above]) -> bool
     false
 }
 
-/// Whether a conflict of its own log has a pending block around its place for its victim.
+/// Whether a pending block around the token's place is the victim of a conflict in its own log.
 fn is_felled(token: &StrandToken) -> bool
     ensures { IsTrue result → (c : Conflict) × Contains (conflicts_in (logs (token_of token.now))) c × Fells (token_of token.now) c }
 {
@@ -210,7 +210,7 @@ impl Stand {
         }
     }
 
-    /// Where its left strand goes on.
+    /// Where the left strand of the fork goes on.
     fn left(self, strand: u32, fork: u32) -> Result<Stand, OutOfMemory>
         ensures { IfOk result (λ s. s ≡ record self { strand = strand; forks = fork ∷ self.forks; strands = self.strand ∷ self.strands }) }
     {
@@ -238,7 +238,7 @@ impl Stand {
         stand
     }
 
-    /// Where the strand stands that forked, if these are the two strands of a fork.
+    /// Where the strand that forked stands, if these are the two strands of a fork.
     fn behind(self, right: Stand) -> Result<Stand, OutOfMemory>
         ensures fork { IfOk result (λ s. (right.forks ≡ []) × (self.forks ≡ right.fork ∷ s.forks)) }
         ensures strand { IfOk result (λ s. self.strands ≡ s.strand ∷ s.strands) }
@@ -275,7 +275,7 @@ impl Stand {
         matches!(self.phase, Phase::Waiting)
     }
 
-    /// Whether no block that its strand began is pending there, and nothing is to be merged.
+    /// Whether no block that its strand began is pending at `place`, and nothing has to be merged.
     fn is_done(&self, place: u32) -> bool
         ensures { IsTrue result → (place ≡ self.now.strand) × (self.now.phase ≡ Going) }
     {
@@ -283,7 +283,7 @@ impl Stand {
     }
 }
 
-/// The verdict on the access made last and one that the token makes next.
+/// Returns the verdict on the access `last` and the token's next one.
 fn asks_counted<R: Wait, K: Ledger, L: Ledger>(
     board: &Board,
     rt: &R,
@@ -314,7 +314,7 @@ fn asks<R: Wait>(board: &Board, rt: &R, token: &mut StrandToken, last: Mark) -> 
 // ## Calls
 
 impl<N: Naming> Scene<N> {
-    /// The board, and its root's strand.
+    /// Takes the board, and its root's strand.
     pub(super) fn new(
         alloc: Global,
         board: Board,
@@ -414,7 +414,7 @@ impl<N: Naming> Scene<N> {
         (strand_of(token, stand), verdict)
     }
 
-    /// Both strands of a fork, the right one with a token of its own.
+    /// Forks a strand. Returns both strands, the right one with a token of its own.
     pub(super) fn fork<R: Wait>(
         &self,
         rt: &R,

@@ -1,4 +1,4 @@
-//! Worked rows: strands that take turns on one board, what its calls answer, and what it leaves.
+//! Example rows: strands that take turns on one board, what its calls return, and what it leaves.
 ghost use Rattle.std.specs.Prelude.{◌≡◌, ◌<◌};
 ghost use Rattle.cw_log.specs.Tokens.{root_token};
 ghost use Rattle.cw_steps.specs.Stands.{token_of};
@@ -15,7 +15,7 @@ use std::marker::Brand;
 use std::sync::Wait;
 use std::test::Fail;
 
-/// A call. Strands are numbered as they come up: the root, and then the right one of each fork.
+/// A call. Strands are numbered in the order in which they appear: first the root, then the right strand of each fork.
 #[derive(Clone, Copy, Drop)]
 enum Call {
     Begin(usize),
@@ -23,14 +23,14 @@ enum Call {
     Out(usize, i64),
     Read(usize, u32),
     Write(usize, u32, i64),
-    /// How many strands are there then.
+    /// The right strand gets the next number.
     Fork(usize),
     Split(usize),
     Join(usize, usize),
     Merge(usize),
     Roll(usize),
     Chain(usize, u32),
-    /// Of an access that a column made, with its stamp.
+    /// Asks about an access that a column made, with its stamp.
     Ask(usize, u32, u64),
 }
 
@@ -42,7 +42,7 @@ const LIMITS: Limits = Limits {
     moves: 0,
 };
 
-/// The strands that are led, each in its place unless it was joined.
+/// The strands that are led, each at its number until it is joined.
 type Cast<N> = Vec<Option<Strand<N>>>;
 
 fn taken<N: Naming>(cast: &mut Cast<N>, n: usize) -> Result<Strand<N>, OutOfMemory> {
@@ -58,7 +58,7 @@ fn put<N: Naming>(cast: &mut Cast<N>, n: usize, led: Strand<N>) {
     }
 }
 
-/// The stamps of a chain, each with a blank.
+/// Writes the stamps of a chain, each followed by a blank.
 fn stamps_told(alloc: Global, chain: &[u64]) -> Result<String, Fail> {
     let mut text = String::new(alloc);
     for stamp in chain {
@@ -68,7 +68,7 @@ fn stamps_told(alloc: Global, chain: &[u64]) -> Result<String, Fail> {
     Ok(text)
 }
 
-/// The block that was met, the victim and the attempt.
+/// Writes the block that was met, the victim and the attempt.
 fn cause_told(alloc: Global, conflict: &Conflict) -> Result<String, Fail> {
     let Conflict {
         block,
@@ -108,7 +108,7 @@ fn access_told(alloc: Global, access: &Access) -> Result<String, Fail> {
     }
 }
 
-/// A strand after a call of it that answers nothing.
+/// Makes a call that returns nothing.
 fn moved<N: Naming, R: Wait>(
     rt: &R,
     scene: &Scene<N>,
@@ -126,7 +126,7 @@ fn moved<N: Naming, R: Wait>(
     }
 }
 
-/// What an access answers.
+/// Makes an access, and writes what it returns.
 fn accessed<N: Naming, R: Wait>(
     rt: &R,
     alloc: Global,
@@ -139,7 +139,7 @@ fn accessed<N: Naming, R: Wait>(
     Ok((led, access_told(alloc, &access)?))
 }
 
-/// What a call of a strand other than fork or join answers.
+/// Makes a call other than fork or join, and writes what it returns.
 fn told<N: Naming, R: Wait>(
     rt: &R,
     alloc: Global,
@@ -179,7 +179,7 @@ fn who(call: Call) -> usize {
     }
 }
 
-/// Makes a call, and answers what it answered.
+/// Makes a call, and writes what it returns.
 fn called<N: Naming, R: Wait>(
     rt: &R,
     alloc: Global,
@@ -209,7 +209,7 @@ fn called<N: Naming, R: Wait>(
     }
 }
 
-/// The stamps of the nodes with the ends of blocks, the conflicts, and of each cell the stamps and values of its entries.
+/// Writes the stamps of the nodes with the ends of blocks, the conflicts, and the stamps and values of each cell's entries.
 fn closed_told(alloc: Global, closed: &Closed) -> Result<String, Fail> {
     let mut text = format!(in alloc; "nodes")?;
     for node in closed.tree.nodes() {
@@ -234,7 +234,7 @@ fn closed_told(alloc: Global, closed: &Closed) -> Result<String, Fail> {
     Ok(text)
 }
 
-/// What the calls answer, and what the board leaves.
+/// Writes what the calls return, and what the board leaves.
 fn played<N: Naming, R: Wait>(
     rt: &R,
     alloc: Global,
@@ -263,7 +263,7 @@ fn played<N: Naming, R: Wait>(
     Ok(text)
 }
 
-/// The same on a board with these cells.
+/// Like `played`, on a new board with the cells `init`.
 fn row<R: Wait>(rt: &R, alloc: Global, init: &[i64], calls: &[Call]) -> Result<String, Fail> {
     let made = Board::new(alloc, init, LIMITS)?;
     let cells = init.len() as u32;

@@ -28,10 +28,10 @@ const LIMITS: Limits = Limits {
 /// The cell that all strands share, behind those that they have for themselves.
 const SHARED: u32 = 4;
 
-/// So many accesses are made in all.
+/// The number of accesses in all.
 const ACCESSES: u32 = 100_000;
 
-/// The value of a cell, to which 1 is added.
+/// Adds 1 to the value of a cell.
 fn adds<N: Naming, R: Wait>(
     rt: &R,
     scene: &Scene<N>,
@@ -48,7 +48,7 @@ fn adds<N: Naming, R: Wait>(
     Ok(led)
 }
 
-/// Adds 1 so many times to a cell of its own and to the one that all share: four accesses each time.
+/// Adds 1 `times` times to a cell of its own and to the shared one: four accesses each time.
 fn counts<N: Naming, R: Wait>(
     rt: &R,
     scene: &Scene<N>,
@@ -64,7 +64,7 @@ fn counts<N: Naming, R: Wait>(
     Ok(led)
 }
 
-/// Two strands of a fork that is split.
+/// Returns the two strands of a split fork.
 fn parts<N: Naming, R: Wait>(
     rt: &R,
     scene: &Scene<N>,
@@ -75,7 +75,7 @@ fn parts<N: Naming, R: Wait>(
     Ok((left, right))
 }
 
-/// The strand that forked.
+/// Joins both strands, and returns the strand that forked.
 fn meets<N: Naming, R: Wait>(
     rt: &R,
     scene: &Scene<N>,
@@ -86,7 +86,7 @@ fn meets<N: Naming, R: Wait>(
     scene.merge(rt, led)
 }
 
-/// Both strands of a fork count, each in a thread of its own.
+/// Both strands of a fork count, each on a thread of its own.
 fn pair<N: Naming, R: Threads + Wait + Sync>(
     rt: &R,
     scene: &Scene<N>,
@@ -104,7 +104,7 @@ fn pair<N: Naming, R: Threads + Wait + Sync>(
     meets(rt, scene, left?, right?)
 }
 
-/// And both strands of two forks.
+/// Both strands of two forks count.
 fn pairs<N: Naming, R: Threads + Wait + Sync>(
     rt: &R,
     scene: &Scene<N>,
@@ -150,7 +150,7 @@ fn closed<R: Threads + Wait + Sync>(
     counted::<Brand, R>(rt, alloc, made, threads)
 }
 
-/// The stamps that are there, in order.
+/// Returns the stamps of the nodes that have one, in order.
 fn stamps(alloc: Global, nodes: &[Node]) -> Result<Vec<u64>, OutOfMemory> {
     let mut stamps = Vec::new(alloc);
     for node in nodes {
