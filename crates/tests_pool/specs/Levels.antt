@@ -9,7 +9,7 @@ level_at_begin level p = level - p.forks
 abbrev pub levels_at : (level : ℕ) → List PendingBegin → List ℕ
 levels_at level ps = map (level_at_begin level) ps
 
--- all are below this
+-- all levels are below `level`
 abbrev pub AreUnder : (level : ℕ) → List ℕ → Type 0
 AreUnder level [] = Unit {0}
 AreUnder level (l ∷ ls) = (l < level) × AreUnder level ls

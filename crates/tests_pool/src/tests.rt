@@ -16,7 +16,7 @@ mod fickle;
 mod pairs;
 mod walks;
 
-// So many attempts and columns that none of these limits is met.
+// Limits with enough attempts and columns that none is met.
 const WIDE: Limits = Limits {
     fuel: 100_000,
     size: 1_000_000,
@@ -49,7 +49,7 @@ fn program(alloc: Global, text: &str) -> Result<Program, Fail>
     }
 }
 
-// ## Worked programs
+// ## Example programs
 
 const LOST: &str = "cell c; fn main() { atomic { spawn { c = c + 1; } c = c + 1; } }";
 

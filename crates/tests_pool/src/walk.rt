@@ -1,4 +1,4 @@
-//! A walk through the logs of the root's token, from main on: each want is met by its node, and each log is used once.
+//! Walks through the logs of the root's token, from main on: each want is met by its node, and each log is used once.
 ghost use Rattle.std.specs.Prelude.{length};
 ghost use Rattle.cw_job.specs.Jobs.{TakesWords};
 
@@ -16,7 +16,7 @@ pub enum Why {
     Memory,
     /// The strand wants something else, or nothing more.
     Want,
-    /// It had broken off before.
+    /// The strand had broken off before.
     Off,
     /// A fork has no left strand behind it.
     Fork,
@@ -24,7 +24,7 @@ pub enum Why {
     Log,
     /// A conflict has no refused access.
     Conflict,
-    /// More nodes or logs than strands made.
+    /// There are more nodes or logs than strands made.
     More,
     /// The run did not end as its halt tells.
     End,
@@ -36,7 +36,7 @@ impl From<OutOfMemory> for Why {
     }
 }
 
-/// Where a walk found something wrong: at a node of the log with this column.
+/// Where a walk found something wrong: at `node` of the log with `column`.
 #[derive(Clone, Copy, Drop, PartialEq, Eq, Debug)]
 pub struct Wrong {
     pub why: Why,
@@ -65,7 +65,7 @@ impl<'a> Legs<'a> {
         }
     }
 
-    /// Whether it goes on, and has come to its end.
+    /// Whether the strand goes on, and has come to its end.
     fn is_over(&self) -> bool {
         match self {
             Legs::Goes(walker) => walker.is_over(),
@@ -81,7 +81,7 @@ impl<'a> Legs<'a> {
     }
 }
 
-/// The strand that forked: it goes on where both its strands have come to their ends.
+/// Joins two strands: the strand that forked goes on if both have come to their ends.
 fn joined<'a>(left: Legs<'a>, right: Legs<'a>) -> Result<Legs<'a>, Why> {
     let are_over = left.is_over() && right.is_over();
     match (left, right) {
@@ -100,18 +100,19 @@ fn joined<'a>(left: Legs<'a>, right: Legs<'a>) -> Result<Legs<'a>, Why> {
 /// What is open around the strand that is walked.
 #[derive(Drop)]
 enum Open<'a> {
-    /// A block, which was begun in this place.
+    /// A block that was begun in the place `outer`.
     Block {
         outer: u32,
     },
-    /// The left strand of a fork that was made in this place. The right one comes next, in the same log where that has its number.
+    /// The left strand of a fork that was made in the place `outer`. The right strand comes next, in the same log if `inline` has
+    /// its number.
     Left {
         fork: u32,
         outer: u32,
         right: Walker<'a>,
         inline: Option<u32>,
     },
-    /// The right strand. Where it has a log of its own, the walk goes back to this node of this log.
+    /// The right strand of a fork. If it has a log of its own, the walk goes back to the log and node in `before`.
     Right {
         outer: u32,
         left: Legs<'a>,
@@ -119,7 +120,7 @@ enum Open<'a> {
     },
 }
 
-/// The cell of a refused access.
+/// Returns the cell of a refused access.
 fn tried(node: &Node) -> Option<u32> {
     match node.kind {
         Kind::Tried { cell } => Some(cell),
@@ -127,7 +128,7 @@ fn tried(node: &Node) -> Option<u32> {
     }
 }
 
-/// Whether each conflict is of a refused access of the log, and each of these has one.
+/// Whether each conflict is that of a refused access in the log, and each of these has one.
 fn are_asked(nodes: &[Node], conflicts: &[Conflict]) -> bool {
     let mut askers = 0usize;
     for node in nodes {
@@ -149,7 +150,7 @@ fn are_asked(nodes: &[Node], conflicts: &[Conflict]) -> bool {
     true
 }
 
-/// So many numbers further.
+/// Adds `more` to a number.
 fn after(number: u32, more: u32) -> Result<u32, Why> {
     match number.checked_add(more) {
         Some(next) => Ok(next),
@@ -157,7 +158,7 @@ fn after(number: u32, more: u32) -> Result<u32, Why> {
     }
 }
 
-/// Whether a strand stands where this stops one.
+/// Whether this halt stops a strand at this want.
 fn stops(halt: Halt, want: Want) -> bool {
     match (halt, want) {
         (Halt::Fault { kind, .. }, Want::Fault(wanted)) => kind == wanted,
@@ -176,13 +177,13 @@ struct Walk<'a> {
     place: u32,
     open: Stack<Open<'a>>,
     stop: Option<Stop>,
-    /// The strand that stopped was met.
+    /// Whether the strand that stopped was met.
     met: bool,
     is_over: bool,
 }
 
 impl<'a> Walk<'a> {
-    /// A step of the strand, or of what is open around it.
+    /// Makes a step of the strand, or of what is open around it.
     fn step(&mut self, legs: Legs<'a>) -> Result<Legs<'a>, Why> {
         let nodes = self.page.nodes;
         match nodes.get(self.next as usize) {
@@ -216,7 +217,7 @@ impl<'a> Walk<'a> {
         Ok(Legs::Goes(walker))
     }
 
-    /// Whether a strand of this fork has this number.
+    /// Whether the node `number` is a strand of this fork.
     fn is_branch(&self, number: u32, fork: u32) -> bool {
         match self.page.nodes.get(number as usize) {
             Some(node) => matches!(node.kind, Kind::Strand) && node.parent == fork,
@@ -249,7 +250,7 @@ impl<'a> Walk<'a> {
         Ok(Legs::Goes(left))
     }
 
-    /// The strand has nothing more in its place.
+    /// Leaves the strand's place, in which nothing more follows.
     fn leaves(&mut self, legs: Legs<'a>) -> Result<Legs<'a>, Why> {
         match self.open.pop() {
             None => self.ends(legs),
@@ -278,7 +279,7 @@ impl<'a> Walk<'a> {
         }
     }
 
-    /// Whether the strand that ends here is the one that stopped.
+    /// Notes whether the strand that ends here is the one that stopped.
     fn looks(&mut self, legs: &Legs<'a>) {
         if let Some(stop) = self.stop {
             if stop.column == self.page.column && stop.strand == self.place {
@@ -301,7 +302,7 @@ impl<'a> Walk<'a> {
         }
     }
 
-    /// From the left strand of a fork to the right one.
+    /// Goes from the left strand of a fork to the right one.
     fn turns(
         &mut self,
         left: Legs<'a>,
@@ -350,7 +351,7 @@ impl<'a> Walk<'a> {
         Ok(())
     }
 
-    /// Both strands of a fork have nothing more.
+    /// Joins both strands of a fork, in which nothing more follows.
     fn joins(
         &mut self,
         right: Legs<'a>,
@@ -370,7 +371,7 @@ impl<'a> Walk<'a> {
         Ok(legs)
     }
 
-    /// The strand of main has nothing more.
+    /// Ends the walk at the end of main's strand.
     fn ends(&mut self, legs: Legs<'a>) -> Result<Legs<'a>, Why> {
         self.looks(&legs);
         if self.next as usize != self.page.nodes.len() || self.logs.next().is_some() {
@@ -400,7 +401,7 @@ impl<'a> Walk<'a> {
     }
 }
 
-/// The logs of the root's token, and how that was stopped.
+/// The logs of the root's token, and how it was stopped.
 #[derive(Clone, Copy, Drop)]
 pub struct Told<'a> {
     pub nodes: &'a [Node],

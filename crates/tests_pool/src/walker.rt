@@ -14,7 +14,8 @@ use cw_strand::{Given, Want};
 use cw_tree::Kind;
 use std::alloc::Global;
 
-/// One that goes on: its body, of how many forks it is the right strand, and of how many it was at the begin of each pending block around it, the
+/// A strand that goes on: its body, the number of forks of which it is the right strand, and that number at the begin of each
+/// pending block around it, innermost first.
 /// innermost first.
 #[derive(Drop)]
 pub(crate) struct Walker<'a> {
@@ -27,7 +28,7 @@ pub(crate) struct Walker<'a> {
     ghost around: { levels ≡ levels_at level body.begins },
 }
 
-/// One that goes no further from where it stands, but may go back.
+/// A strand that goes no further from where it stands, but may go back.
 #[derive(Drop)]
 pub(crate) struct Fallen<'a> {
     program: &'a Program,
@@ -39,7 +40,7 @@ pub(crate) struct Fallen<'a> {
     ghost around: { levels ≡ levels_at level body.begins },
 }
 
-/// Whether all are below this.
+/// Whether all levels are below `level`.
 fn are_below(levels: &Stack<u64>, level: u64) -> Result<bool, Why>
     ensures { IfOk result (λ b. IsTrue b → AreUnder level levels.now) }
 {
@@ -57,7 +58,7 @@ fn are_below(levels: &Stack<u64>, level: u64) -> Result<bool, Why>
     Err(Why::Memory)
 }
 
-/// The value that was read of this cell.
+/// Returns the value that was read, if this is a read of the cell `wanted`.
 fn read_of(kind: &Kind, wanted: u32) -> Option<i64> {
     match kind {
         Kind::Read { cell, value } => { if *cell == wanted { Some(*value) } else { None } }
@@ -79,7 +80,7 @@ fn is_out(kind: &Kind, wanted: i64) -> bool {
     }
 }
 
-/// What a node that an act made answers, where the strand wants that act.
+/// Returns the answer that this node gives, if the strand wants the act that made it.
 fn given(want: Want, kind: &Kind) -> Option<Given>
     ensures { IfSome result (λ given. (elements : ℕ) → AnswersAct elements want given) }
 {
@@ -107,7 +108,7 @@ fn given(want: Want, kind: &Kind) -> Option<Given>
 }
 
 impl<'a> Walker<'a> {
-    /// The strand of main.
+    /// Starts the strand of main.
     pub(crate) fn main(
         alloc: Global,
         program: &'a Program,
@@ -128,7 +129,7 @@ impl<'a> Walker<'a> {
         self.body.want()
     }
 
-    /// Whether it wants to read or write this cell.
+    /// Whether the strand wants to read or write `cell`.
     pub(crate) fn is_at(&self, cell: u32) -> bool {
         match self.body.want() {
             Want::Load(wanted) => wanted == cell,
@@ -137,7 +138,7 @@ impl<'a> Walker<'a> {
         }
     }
 
-    /// Whether it has come to its end.
+    /// Whether the strand has come to its end.
     pub(crate) fn is_over(&self) -> bool
         ensures { IsTrue result → is_over (want_of self.now.body) ≡ true }
     {
@@ -169,7 +170,7 @@ impl<'a> Walker<'a> {
         Ok(walker)
     }
 
-    /// Goes on behind the block.
+    /// Goes on behind the innermost block.
     pub(crate) fn ends(self) -> Result<Walker<'a>, Why> {
         let Walker {
             program,
@@ -192,7 +193,7 @@ impl<'a> Walker<'a> {
         })
     }
 
-    /// The left and the right strand of a fork.
+    /// Returns the left and the right strand of a fork.
     pub(crate) fn forks(self, alloc: Global) -> Result<(Walker<'a>, Walker<'a>), Why> {
         let mut right = self;
         let Want::Fork = right.body.want() else {
@@ -213,7 +214,7 @@ impl<'a> Walker<'a> {
         Ok((left, right))
     }
 
-    /// As the right strand of a fork, becomes the strand that forked.
+    /// Joins a fork: this right strand becomes the strand that forked.
     pub(crate) fn joins(self, left: Walker<'a>) -> Result<Walker<'a>, Why> {
         let mut right = self;
         let Walker { body, .. } = left;
@@ -229,7 +230,7 @@ impl<'a> Walker<'a> {
         Ok(right)
     }
 
-    /// Goes no further.
+    /// Gives up: goes no further.
     pub(crate) fn falls(self) -> Fallen<'a> {
         let Walker {
             program,
@@ -252,7 +253,7 @@ impl<'a> Fallen<'a> {
         self.body.want()
     }
 
-    /// The innermost block around it is left pending.
+    /// Leaves the innermost block around it pending.
     pub(crate) fn leaves(self) -> Result<Fallen<'a>, Why> {
         let Fallen {
             program,

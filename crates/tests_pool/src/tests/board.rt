@@ -9,7 +9,7 @@ use std::sync::Wait;
 use std::test::Fail;
 use std::thread::Threads;
 
-// The record of a run, which one memory replays.
+// Returns the record of a run, which one memory replays.
 fn record<R: Threads + Wait + Sync>(
     rt: &R,
     alloc: Global,
@@ -29,7 +29,7 @@ fn record<R: Threads + Wait + Sync>(
     }
 }
 
-// How a run ended, without the strand that is named.
+// Writes how a run ended, without the name of the strand.
 fn shown(alloc: Global, record: &Record) -> Result<String, Fail> {
     Ok(match &record.end {
         RecordEnd::Finished { memory, outputs } => {
@@ -73,7 +73,7 @@ fn records_of_the_board_replay(rt: HostRuntime) -> Result<(), Fail> {
     Ok(())
 }
 
-// The schedule says whether an access is refused.
+// The schedule decides whether an access is refused.
 #[test]
 fn one_attempt_may_be_spent(rt: HostRuntime) -> Result<(), Fail> {
     for _ in 0..20u32 {

@@ -22,7 +22,7 @@ fn an_owner_and_a_thief(rt: HostRuntime) -> Result<(), Fail> {
 const WORKERS: u32 = 4;
 
 const TASKS: u32 = 250_000;
-// So often does a worker look for a task before it gives up.
+// The number of looks for a task before a worker gives up.
 const LOOKS: u64 = 1_000_000_000;
 
 #[derive(Drop)]
@@ -72,7 +72,8 @@ impl Runs {
 }
 
 impl Worker {
-    // The next task of its own, after which it pops in every third turn, or else one that it pops or steals.
+    // Returns a task to run. While the worker has tasks of its own it pushes the next one, and pops only after every third;
+    // afterwards it pops or steals.
     fn find<R: Wait>(&mut self, rt: &R) -> Option<u32> {
         if self.next < self.end {
             let task = self.next;
@@ -94,7 +95,7 @@ impl Worker {
     }
 }
 
-// Runs tasks till all have run, whoever pushed them.
+// Runs tasks until all have run, whoever pushed them.
 fn works<R: Wait>(rt: &R, worker: Worker, runs: &Runs) {
     let mut worker = worker;
     let most = u64::from(WORKERS * TASKS);

@@ -25,10 +25,10 @@ const ODDS: Odds = Odds {
     early: 25,
 };
 
-// So many seeds for each number of workers: with other work beside, a run may take a hundredth of a second.
+// The number of seeds for each number of workers. On a busy machine a run may take a hundredth of a second.
 const SEEDS: u64 = 100;
 
-// So many blocks in each other would be rolled back before the innermost is reached.
+// No refusals: with so many nested blocks, refusals would keep rolling them back before the innermost is reached.
 const NEVER: Odds = Odds { refused: 0, ..ODDS };
 
 // How a run ended.
@@ -40,7 +40,7 @@ enum Ending {
     Memory,
 }
 
-// A program that is run so often by each number of workers, and how its runs may end.
+// A program that is run once for each seed and number of workers, and how its runs may end.
 #[derive(Clone, Copy, Drop)]
 struct Trial<'a> {
     text: &'a str,
@@ -69,7 +69,7 @@ fn end_of(token: &StrandToken) -> Ending {
     }
 }
 
-// The root's token once all have worked.
+// Returns the root's token after all have worked.
 fn worked<R: Threads + Wait + Sync>(
     rt: &R,
     alloc: Global,
@@ -99,7 +99,7 @@ fn worked<R: Threads + Wait + Sync>(
     ))
 }
 
-// How the run ended whose logs are those that strands of its program make.
+// Returns how a run ended, after checking that its logs are those that strands of its program make.
 fn ended<R: Threads + Wait + Sync>(
     rt: &R,
     alloc: Global,
@@ -146,7 +146,7 @@ fn runs<R: Threads + Wait + Sync>(
 
 const WHOLE: (Ending, Ending) = (Ending::Whole, Ending::Whole);
 
-// The worked programs, each run by so many workers.
+// Runs each example program with `workers` workers.
 fn worked_programs<R: Threads + Wait + Sync>(
     rt: &R,
     alloc: Global,

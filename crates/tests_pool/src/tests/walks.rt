@@ -17,7 +17,7 @@ fn way(threads: bool, halts: bool) -> Way {
     }
 }
 
-// What was met least often of all that walks without halts are to meet.
+// Returns the smallest of the counts that walks without halts have to reach.
 fn least(counts: &Counts) -> u64 {
     counts
         .refused
