@@ -1,6 +1,5 @@
-//! Tests of the tier and of the conflict query by their public calls, and nothing else: they stand here and not with the parts, so that
-//! each of those is proved once, and not in `tests_record`, since nothing that they try speaks of programs.
-//! Stands on the parts that they try.
+//! Tests of the tier, the conflict query and the core by their public calls. They are not with the parts, so that each part is
+//! proved once; nor in `tests_record`, since nothing that they test speaks of programs.
 #![tactic(auto)]
 
 #[cfg(test)]

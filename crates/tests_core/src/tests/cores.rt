@@ -6,7 +6,7 @@ use cw_tree::{Closed, Conflict, Halt, Node};
 use std::alloc::Global;
 use std::test::Fail;
 
-/// The words of a reply.
+/// Writes a reply.
 fn told(alloc: Global, reply: &Reply) -> Result<String, Fail> {
     Ok(match reply {
         Reply::Done => format!(in alloc; "done ")?,
@@ -32,7 +32,7 @@ fn conflict_told(alloc: Global, conflict: &Conflict) -> Result<String, Fail> {
     Ok(text)
 }
 
-/// The block that was met, the victim, the attempt, and the newest accesses of the cell.
+/// Writes the block that was met, the victim, the attempt, and the newest accesses of the cell.
 fn cause_told(alloc: Global, conflict: &Conflict) -> Result<String, Fail> {
     let Conflict {
         block,
@@ -57,7 +57,7 @@ fn back_told(alloc: Global, list: &[Back]) -> Result<String, Fail> {
     Ok(text)
 }
 
-/// The stamp of the newest node.
+/// Returns the stamp of the newest node.
 fn newest_stamp(nodes: &[Node]) -> u64 {
     let mut stamp = 0;
     for node in nodes {
@@ -66,7 +66,7 @@ fn newest_stamp(nodes: &[Node]) -> u64 {
     stamp
 }
 
-/// The replies to a list of events, each of which is made if it fits, and then the stamp of the newest node.
+/// Writes the replies to a list of events, each of which is made if it fits, and then the stamp of the newest node.
 fn replies(
     alloc: Global,
     first: &[i64],
@@ -90,7 +90,7 @@ fn replies(
     Ok(text)
 }
 
-/// The replies to these events.
+/// Writes the replies to these events.
 fn all_made(alloc: Global, core: &mut Core, events: &[Event]) -> Result<String, Fail> {
     let mut text = String::new(alloc);
     for event in events {
@@ -105,7 +105,7 @@ fn stamp_told(alloc: Global, core: &Core) -> Result<String, Fail> {
     Ok(format!(in alloc; "{stamp} ")?)
 }
 
-/// The reply to an event, or that it does not fit.
+/// Writes the reply to an event, or `no` if it does not fit.
 fn made(alloc: Global, core: &mut Core, event: Event) -> Result<String, Fail> {
     if !core.fits(&event) {
         return Ok(format!(in alloc; "no ")?);
@@ -264,7 +264,7 @@ fn replies_to_cancels(rt: HostRuntime) -> Result<(), Fail> {
 #[test]
 fn replies_to_events(rt: HostRuntime) -> Result<(), Fail> {
     let table: [(&[i64], u32, u32, &[Event], &str); 6] = [
-        // a fork outward is to be split first; a fork without columns
+        // a fork outward has to be split first; a fork without columns
         (
             &[0],
             5,
@@ -339,7 +339,7 @@ fn replies_to_events(rt: HostRuntime) -> Result<(), Fail> {
             ],
             "fork 1 2 3 done done fork 5 6 7 done 1 5 done done done conflict 0 4 10 2 0 1 of 4 1 conflict 0 4 12 2 0 2 of 4 done 2 8 ",
         ),
-        // and in one joined before a block
+        // a write in a split fork joined before a block
         (
             &[0, 0],
             100,
@@ -393,7 +393,7 @@ fn replies_to_events(rt: HostRuntime) -> Result<(), Fail> {
             ],
             "fork 1 2 3 done done 1 done fork 7 8 9 conflict 0 3 10 2 4 1 of 3 no no no done no 0 ",
         ),
-        // strands that die, and their parent rolls back
+        // strands die, and their parent rolls back
         (
             &[0],
             100,
@@ -434,7 +434,7 @@ fn replies_to_events(rt: HostRuntime) -> Result<(), Fail> {
     Ok(())
 }
 
-/// So many blocks in one another with a write in the innermost one, and an access that it refuses.
+/// Makes the events of `depth` nested blocks with a write in the innermost one, and of an access that it refuses.
 fn refused_by_a_deep_write(alloc: Global, depth: u32) -> Result<Vec<Event>, Fail> {
     let mut events = Vec::new(alloc);
     events.push(Event::Fork { strand: 0 })?;
@@ -460,7 +460,7 @@ fn a_refusal_draws_no_stamp(rt: HostRuntime) -> Result<(), Fail> {
     Ok(())
 }
 
-/// The parents of the nodes, the askers of the conflicts, and the stamps of each cell's accesses.
+/// Writes the parents of the nodes, the askers of the conflicts, and the stamps of each cell's accesses.
 fn closed_told(alloc: Global, closed: &Closed) -> Result<String, Fail> {
     let mut text = String::new(alloc);
     for node in closed.tree.nodes() {
@@ -480,7 +480,7 @@ fn closed_told(alloc: Global, closed: &Closed) -> Result<String, Fail> {
     Ok(text)
 }
 
-/// What is left of a core after these events, each of which is made if it fits.
+/// Writes what is left of a core after these events, each of which is made if it fits.
 fn closed_after(alloc: Global, events: &[Event]) -> Result<String, Fail> {
     let limits = Limits {
         fuel: 0,

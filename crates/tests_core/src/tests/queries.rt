@@ -9,7 +9,7 @@ use std::marker::Brand;
 use std::sync::ledger::{Blank, Ledger};
 use std::test::Fail;
 
-/// A call of a tier, or a gap's word. A fork is told the word of its parent's gap.
+/// A call of a tier, or a write of a gap's word. A fork is given the word of its parent's gap.
 #[derive(Clone, Copy)]
 enum Call {
     Fork(u32),
@@ -66,7 +66,7 @@ fn make(tier: &mut Tier, gaps: &mut Gaps, call: Call) {
     }
 }
 
-/// What is answered on an access, within the bounds of both calls.
+/// Writes the answer on an access, if it is within the bounds of both calls.
 fn answer<K: Ledger, L: Ledger>(
     alloc: Global,
     tier: &Tier,
@@ -95,7 +95,7 @@ fn answer<K: Ledger, L: Ledger>(
     })
 }
 
-/// What is answered after calls of a tier with so much room.
+/// Writes the answers after calls of a tier with room for `room` columns.
 fn answers<K: Ledger, L: Ledger>(
     alloc: Global,
     blanks: (Blank, Blank),
@@ -197,7 +197,7 @@ fn verdicts_of_a_tier(rt: HostRuntime) -> Result<(), Fail> {
     Ok(())
 }
 
-/// Columns in which nothing agrees: traces that are not there, and a gap's word that is 5 once and then 0.
+/// Columns in which nothing agrees: traces that do not exist, and a gap's word that is 5 once and then 0.
 #[derive(Drop)]
 struct Fickle {
     word: u64,
@@ -264,8 +264,8 @@ fn a_verdict_whatever_is_told(rt: HostRuntime) -> Result<(), Fail> {
     Ok(())
 }
 
-/// A tree and a tier at one moment, the column of each node, and of whom and by whom it is asked: each asker is a refused access where the
-/// strand's next node goes.
+/// A tree and a tier at one moment, the column of each node, and the accesses and askers of the questions. Each asker is a refused
+/// access where the strand's next node goes.
 #[derive(Drop)]
 struct Moment {
     tree: Tree,
@@ -321,7 +321,7 @@ fn is_above<K: Ledger, L: Ledger>(
     contains_by(held, block, last, looks, compares)
 }
 
-/// The outermost pending block above the asker that is not above the access, by the columns.
+/// Returns the outermost pending block above the asker that is not above the access, by the columns.
 fn victim_by<K: Ledger, L: Ledger>(
     moment: &Moment,
     held: &mut Held<'_>,
@@ -346,7 +346,7 @@ fn victim_by<K: Ledger, L: Ledger>(
     None
 }
 
-/// The verdict on an access for an asker, or `?` where it, or the victim, is not what the tree has.
+/// Writes the verdict on an access for an asker, or `?` if the verdict or the victim is not what the tree has.
 fn verdict_told<K: Ledger, L: Ledger>(
     alloc: Global,
     moment: &Moment,
@@ -375,7 +375,7 @@ fn verdict_told<K: Ledger, L: Ledger>(
     }
 }
 
-/// The verdicts of each access for each asker.
+/// Writes the verdicts on each access for each asker.
 fn verdicts_told<K: Ledger, L: Ledger>(
     alloc: Global,
     moment: &Moment,
@@ -397,7 +397,7 @@ fn verdicts_told<K: Ledger, L: Ledger>(
     Ok(text)
 }
 
-/// The same on a tier and gap words of their own.
+/// Writes the verdicts, on a tier and gap words of their own.
 fn verdicts<K: Ledger, L: Ledger>(
     alloc: Global,
     blanks: (Blank, Blank),
@@ -416,7 +416,7 @@ fn verdicts<K: Ledger, L: Ledger>(
     verdicts_told(alloc, moment, &tier, &gaps, &mut looks, &mut compares)
 }
 
-/// The tree of these nodes beneath the root, each with its parent and stamp.
+/// Makes the tree of these nodes beneath the root, each with its parent and stamp.
 fn tree_of(alloc: Global, nodes: Vec<(u32, Kind, u64)>) -> Result<Tree, Fail> {
     let mut tree = Tree::new(alloc)?;
     for (parent, kind, stamp) in nodes {
@@ -459,7 +459,7 @@ fn stolen_in_a_block(alloc: Global) -> Result<Moment, Fail> {
     })
 }
 
-/// The same without the block around the fork.
+/// The same tree without the block around the fork.
 fn stolen_in_no_block(alloc: Global) -> Result<Moment, Fail> {
     let nodes = vec![in alloc;
         (0, Kind::Fork, 1),

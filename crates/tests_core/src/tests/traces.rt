@@ -8,7 +8,7 @@ use std::process::Abort;
 use std::sync::ledger::{Blank, Ledger};
 use std::test::Fail;
 
-/// A call of a tier: fork with the word and column of a strand, split and merge with a fork.
+/// A call of a tier: a fork with the word and column of a strand, or a split or merge of a fork.
 #[derive(Clone, Copy)]
 enum Call {
     Fork(u64, u32),
@@ -16,14 +16,14 @@ enum Call {
     Merge(u32),
 }
 
-/// What was made so far: of each fork the column that it was made from, and the fork of each split and each merge.
+/// What was made so far: for each fork the column from which it was made, and the fork of each split and each merge.
 #[derive(Drop)]
 struct Walk {
     parents: Vec<u32>,
     turned: Vec<u32>,
 }
 
-/// Whether the fork of this number from 0 is split, and not merged since.
+/// Whether the fork `number`, counted from 0, was split and not merged since.
 fn is_split(walk: &Walk, number: usize) -> bool {
     let mut split = false;
     for fork in &walk.turned {
@@ -34,7 +34,7 @@ fn is_split(walk: &Walk, number: usize) -> bool {
     split
 }
 
-/// The owner of a strand by a walk up: its own column where its fork is split, else the owner of the strand that forked.
+/// Returns the owner of a strand by a walk up: its own column if its fork is split, otherwise the owner of the strand that forked.
 fn owner_of(walk: &Walk, strand: u32) -> u32 {
     let mut at = strand;
     for _ in 0..walk.parents.len() {
@@ -87,7 +87,7 @@ fn merge(alloc: Global, tier: &mut Tier, walk: &mut Walk, fork: u32) -> Result<S
     Ok(String::from_str(alloc, "merged ")?)
 }
 
-/// Makes a call where it may be made, and tells the answer.
+/// Makes a call if it may be made, and writes the answer.
 fn made(alloc: Global, tier: &mut Tier, walk: &mut Walk, call: Call) -> Result<String, Fail> {
     match call {
         Call::Fork(word, parent) => fork(alloc, tier, walk, word, parent),
@@ -96,7 +96,7 @@ fn made(alloc: Global, tier: &mut Tier, walk: &mut Walk, call: Call) -> Result<S
     }
 }
 
-/// The owner and gap of a strand. An owner that is not that of the walk is shown as `?`.
+/// Writes the owner and gap of a strand. An owner that is not that of the walk is written as `?`.
 fn strand_told<L: Ledger>(
     alloc: Global,
     tier: &Tier,
@@ -112,7 +112,8 @@ fn strand_told<L: Ledger>(
     Ok(format!(in alloc; "{owner}:{gap} ")?)
 }
 
-/// Of a trace the lead and the nearest one around it with a pending block, and whether it is inside the root's; nothing of what is none.
+/// Writes a trace's lead, the nearest trace around it with a pending block, and whether it is inside the root's. Writes nothing for
+/// what is no trace.
 fn trace_told<L: Ledger>(
     alloc: Global,
     tier: &Tier,
@@ -128,7 +129,7 @@ fn trace_told<L: Ledger>(
     Ok(format!(in alloc; "[{trace} {lead:?} {up:?} {within}]")?)
 }
 
-/// So of each strand, and then of each trace.
+/// Writes this for each strand, and then for each trace.
 fn tier_told<L: Ledger>(
     alloc: Global,
     tier: &Tier,
@@ -147,7 +148,7 @@ fn tier_told<L: Ledger>(
     Ok(text)
 }
 
-/// What calls answer, and then what the tier tells.
+/// Writes what calls return, and then what the tier tells.
 fn told<L: Ledger>(
     alloc: Global,
     room: u32,
