@@ -1,5 +1,4 @@
-//! Tests of the parts by their public calls, and nothing else: they stand here and not with the parts, so that each of those is proved once.
-//! Stands on the parts that they try.
+//! Tests of the lower crates by their public calls. They are not with those crates, so that each is proved once.
 #![tactic(auto)]
 
 #[cfg(test)]

@@ -9,7 +9,7 @@ use std::test::Fail;
 
 const SHOWS: &str = "cell c; fn main() { spawn { out 1; } out 2; c = 5; }";
 
-// The right strand showed 2 before the left one showed 1.
+// The right strand output 2 before the left one output 1.
 fn shown(alloc: Global) -> Result<Tree, Fail> {
     let nodes = vec![in alloc;
         (0, Kind::Fork, 1),
@@ -56,7 +56,7 @@ fn built(alloc: Global, spent: bool) -> Result<Record, Fail> {
     Ok(build(alloc, program(alloc, SHOWS)?, words, limits, closed, spent)?)
 }
 
-// The memory and the outputs of the run that finished.
+// Returns the memory and the outputs of a run that finished.
 fn left(alloc: Global) -> Result<(i64, i64, i64), Fail> {
     let record = built(alloc, false)?;
     let left = left_at(&record.end);
@@ -64,7 +64,7 @@ fn left(alloc: Global) -> Result<(i64, i64, i64), Fail> {
     left
 }
 
-// The cell and the two outputs that an end has.
+// Returns the cell and the two outputs of an end.
 fn left_at(end: &RecordEnd) -> Result<(i64, i64, i64), Fail> {
     match end {
         RecordEnd::Finished { memory, outputs } => match (memory.as_slice(), outputs.as_slice()) {

@@ -31,7 +31,7 @@ fn leaf(alloc: Global, list: &[Back]) -> Result<Kind, Fail> {
     })
 }
 
-// A block that writes c, shows it and gives itself up with this list.
+// A block that writes c, outputs it, and cancels itself with this list.
 fn shown(alloc: Global, list: &[Back]) -> Result<Tree, Fail> {
     let nodes = vec![in alloc;
         (0, Kind::Block, 1),
@@ -46,7 +46,7 @@ fn shown(alloc: Global, list: &[Back]) -> Result<Tree, Fail> {
     grown(alloc, nodes, &[(1, BlockState::Committed, 7)])
 }
 
-// A block that writes a and b, and gives itself up with this list.
+// A block that writes a and b, and cancels itself with this list.
 fn twice(alloc: Global, list: &[Back]) -> Result<Tree, Fail> {
     let nodes = vec![in alloc;
         (0, Kind::Block, 1),
@@ -88,7 +88,7 @@ fn a_list_is_looked_at(rt: HostRuntime) -> Result<(), Fail> {
     Ok(())
 }
 
-// The stamp and the list of the first cancel.
+// Writes the stamp and the list of the first cancel.
 fn first_cancel(alloc: Global, tree: &Tree) -> Result<String, Fail> {
     for node in tree.nodes() {
         if let Kind::Cancel { back } = &node.kind {

@@ -10,15 +10,16 @@ use cw_tree::{Conflict, Kind, Tree};
 use std::alloc::Global;
 use std::test::Fail;
 
-// A strand that writes in a block; beside it one that begins a block and spawns in it, and is refused there with its block as victim.
+// A strand writes in a block. Beside it, another strand begins a block and spawns in it; the spawned strand is refused, with that
+// block as victim.
 const REFUSED: &str = "cell c; cell d; fn main() { spawn { atomic { c = 1; c = 2; } } \
     atomic { spawn { c = 3; } d = d + 9223372036854775807 + 1; } }";
-// A strand that writes in a block, and one beside it that is refused in the block around both.
+// A strand writes in a block, and one beside it is refused in the block around both.
 const ALONE: &str = "cell c; fn main() { atomic { spawn { atomic { c = 1; } } c = 2; } }";
 
 const COUNTS: &str = "cell c; fn main() { c = c + 1; out c; }";
 
-// A run of that program with that budget, of this tree and these conflicts, that ended so, in its own order.
+// Makes a run of this program with this budget, tree, conflicts and end, in the order of that tree.
 fn run(
     alloc: Global,
     program: Program,
@@ -48,7 +49,7 @@ fn run(
     })
 }
 
-// What a check says of it.
+// Returns what a check says of such a run.
 pub fn said(
     alloc: Global,
     text: &str,
@@ -87,7 +88,7 @@ const fn differs(cell: u32, kept: i64) -> Checked {
     }
 }
 
-// The left strand has written c once; the strand that the right one spawned was refused at c, and the right one has read d.
+// The left strand has written c once. The strand that the right one spawned was refused at c, and the right one has read d.
 fn refused(alloc: Global) -> Result<Tree, Fail> {
     let nodes = vec![in alloc;
         (0, Kind::Fork, 1),
@@ -105,7 +106,7 @@ fn refused(alloc: Global) -> Result<Tree, Fail> {
     grown(alloc, nodes, &[])
 }
 
-// A fault before the block that was refused is rolled back; and the budget that the refusal spent, told of the victim's strand.
+// A fault before the refused block is rolled back replays; so does the budget that the refusal spent, told for the victim's strand.
 #[test]
 fn a_fault_and_a_spent_budget_replay(rt: HostRuntime) -> Result<(), Fail> {
     let alloc = rt.alloc();
@@ -152,7 +153,7 @@ fn an_access_that_spent_the_budget_replays(rt: HostRuntime) -> Result<(), Fail> 
     Ok(())
 }
 
-// The four things that main does, where its second read found this.
+// The four things that main does, if its second read found `value`.
 fn counted(alloc: Global, value: i64) -> Result<Tree, Fail> {
     let nodes = vec![in alloc;
         (0, Kind::Read { cell: 0, value: 0 }, 1),

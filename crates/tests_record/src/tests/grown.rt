@@ -2,7 +2,7 @@ use cw_tree::{BlockState, Kind, Tree};
 use std::alloc::Global;
 use std::test::Fail;
 
-// The tree of these nodes beneath the root, each with its parent and stamp, where these blocks have ended.
+// Makes the tree of these nodes beneath the root, each with its parent and stamp, in which these blocks have ended.
 pub fn grown(
     alloc: Global,
     nodes: Vec<(u32, Kind, u64)>,

@@ -41,7 +41,7 @@ pub fn program(alloc: Global, text: &str) -> Result<Program, Fail>
     }
 }
 
-// Picks of these numbers, where the root forks once.
+// Makes picks of these strand numbers, if the root forks once.
 fn picks_of(alloc: Global, list: &[u32]) -> Result<Picks, Fail> {
     let names = [name(0, 0, false), name(0, 1, false), name(0, 1, true)];
     Ok(Picks {
@@ -83,7 +83,7 @@ fn picks_lead_to_ends(rt: HostRuntime) -> Result<(), Fail> {
 const SPAWNED: &str =
     "language 2; cell c; cell d; fn main() { atomic { spawn { c = 1; } d = 2; cancel; } }";
 
-// Programs that give up a block, with their size and the picks that bring each to its end.
+// Programs that cancel a block, with their size and the picks that bring each to its end.
 const CANCELS: [(&str, u32, &[u32], &str); 9] = [
     (
         "language 2; cell c = 5; fn main() { atomic { c = 9; out c; cancel; out 1; } out c; }",
@@ -147,13 +147,13 @@ fn blocks_are_given_up(rt: HostRuntime) -> Result<(), Fail> {
     Ok(())
 }
 
-// What each of the three strands stands at.
+// Writes the want of each of the three strands.
 fn standing(alloc: Global, machine: &Machine) -> Result<String, Fail> {
     let wants = [machine.at(0), machine.at(1), machine.at(2)];
     Ok(format!(in alloc; "{wants:?}")?)
 }
 
-// The same once this strand was picked.
+// Picks a strand, and then writes the wants of all three.
 fn picked(
     alloc: Global,
     program: &Program,

@@ -17,7 +17,7 @@ const fn name(parent: u32, fork: u32, right: bool) -> Name {
     }
 }
 
-// The strand that an end names, or the root's.
+// Returns the strand that an end names, or the root's.
 const fn ending_strand(end: &RecordEnd) -> u32
     ensures { result ≡ ending_strand end.now }
 {
@@ -27,7 +27,7 @@ const fn ending_strand(end: &RecordEnd) -> u32
     }
 }
 
-// The order of a run of that tree.
+// Returns the order of a run of this tree.
 pub fn ordered(
     alloc: Global,
     tree: &Tree,
@@ -42,8 +42,8 @@ pub fn ordered(
     Ok(order_of(alloc, tree, conflicts, budget, end)?)
 }
 
-// Two parallel committed blocks of which the later one ends first, a block that was rolled back, and two pending blocks, one in the
-// other, with an output in each.
+// Two parallel committed blocks, of which the later one ends first; a block that was rolled back; and two pending blocks, one
+// inside the other. Each has an output.
 fn apart(alloc: Global) -> Result<Tree, Fail> {
     let nodes = vec![in alloc;
         (0, Kind::Fork, 1),
@@ -101,7 +101,7 @@ fn each_item_is_a_pick_of_its_strand(rt: HostRuntime) -> Result<(), Fail> {
     Ok(())
 }
 
-// How many items are left of that tree where its strand spent this budget, and the conflict has this victim.
+// Returns the number of items left of that tree if its strand spent this budget and the conflict has this victim.
 fn items_left(alloc: Global, victim: u64, budget: u32) -> Result<usize, Fail> {
     let conflicts = [conflict(alloc, victim)];
     let end = RecordEnd::Budget { strand: 3 };
@@ -117,12 +117,12 @@ fn a_spent_budget_leaves_the_victim_out(rt: HostRuntime) -> Result<(), Fail> {
     Ok(())
 }
 
-// The names in the order of a run of that tree that spent its moves.
+// Returns the names in the order of a run of this tree that spent its moves.
 fn names_of(alloc: Global, tree: &Tree) -> Result<Seq<Name>, Fail> {
     Ok(ordered(alloc, tree, &[], 1, &RecordEnd::Moves)?.names)
 }
 
-// A block with a fork is rolled back; its next attempt forks, and the right strand there forks again; then the root strand forks.
+// A block with a fork is rolled back. Its next attempt forks, and the right strand there forks again. Then the root strand forks.
 #[test]
 fn attempts_share_the_names_of_their_strands(rt: HostRuntime) -> Result<(), Fail> {
     let nodes = vec![in rt.alloc();
@@ -157,7 +157,7 @@ fn attempts_share_the_names_of_their_strands(rt: HostRuntime) -> Result<(), Fail
     Ok(())
 }
 
-// A right strand that forks before the left one.
+// A right strand forks before the left one.
 #[test]
 fn names_are_listed_depth_first(rt: HostRuntime) -> Result<(), Fail> {
     let nodes = vec![in rt.alloc();

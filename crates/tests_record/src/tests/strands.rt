@@ -8,15 +8,15 @@ use std::alloc::Global;
 use std::process::Abort;
 use std::test::Fail;
 
-// Functions, each with its parameters, its locals, its start and its end, and instructions, each with its operands. The one array has 4
-// elements.
+// Functions, each with its parameters, its locals, its start and its end; and instructions, each with its operands. The one array
+// has 4 elements.
 #[derive(Drop)]
 struct Listing {
     funcs: &'static [(u32, u32, u32, u32)],
     instrs: &'static [(u8, i64, u32)],
 }
 
-// Doubles each number below 4 into the array, by calls, and puts the last element out.
+// Doubles each number below 4 into the array, by calls, and outputs the last element.
 fn doubles() -> Listing {
     Listing {
         funcs: &[(0, 1, 0, 19), (1, 1, 19, 23)],
@@ -48,7 +48,7 @@ fn doubles() -> Listing {
     }
 }
 
-// Takes the arguments apart: 9 - 2 is put out.
+// Tells the arguments apart: outputs 9 - 2.
 fn takes_two() -> Listing {
     Listing {
         funcs: &[(0, 0, 0, 6), (2, 2, 6, 10)],
@@ -67,7 +67,7 @@ fn takes_two() -> Listing {
     }
 }
 
-// Loads an element that is not there.
+// Loads an element that does not exist.
 fn beyond() -> Listing {
     Listing {
         funcs: &[(0, 0, 0, 3)],
@@ -83,7 +83,7 @@ fn deeper() -> Listing {
     }
 }
 
-// A strand that puts 1 out beside one that puts 2 out.
+// One strand outputs 1, beside one that outputs 2.
 fn forks() -> Listing {
     Listing {
         funcs: &[(0, 0, 0, 9)],
@@ -155,7 +155,7 @@ fn program(alloc: Global, listing: &Listing) -> Result<Program, Fail> {
     })
 }
 
-// What a want is answered with, by an array.
+// Returns the answer to a want, by an array.
 fn answered(want: Want, elements: &mut [i64; 4]) -> Given {
     match want {
         Want::Load(cell) if cell < 4 => Given::Value(elements[cell as usize]),
@@ -167,7 +167,7 @@ fn answered(want: Want, elements: &mut [i64; 4]) -> Given {
     }
 }
 
-// The strand of a main without parameters.
+// Makes the strand of a main without parameters.
 fn strand_of(alloc: Global, program: &Program, limits: Limits) -> Result<Strand, Fail>
     ensures { IfOk result (λ s. StandsIn program.now.code s) }
 {
@@ -180,7 +180,7 @@ fn strand_of(alloc: Global, program: &Program, limits: Limits) -> Result<Strand,
     Ok(Strand::main(alloc, program, &[], limits)?)
 }
 
-// The wants of the strand of main are these, where an array answers them.
+// Asserts that the strand of main has these wants, if an array answers them.
 fn wants_are(
     rt: &impl Abort,
     alloc: Global,
@@ -247,7 +247,7 @@ fn strands_of_code_are_asked_want_by_want(rt: HostRuntime) -> Result<(), Fail> {
     )
 }
 
-// The left strand of the fork that a strand wants.
+// Returns the left strand of the fork that a strand wants.
 fn forked(alloc: Global, strand: &mut Strand, program: &Program) -> Result<Strand, Fail>
     requires { StandsIn program.now.code strand.old }
     ensures left { IfOk result (λ s. StandsIn program.now.code s) }
@@ -259,7 +259,7 @@ fn forked(alloc: Global, strand: &mut Strand, program: &Program) -> Result<Stran
     }
 }
 
-// A strand puts this out and ends.
+// Lets a strand output `number` and end.
 fn ends(strand: &mut Strand, program: &Program, number: i64) -> Result<(), Fail>
     requires { StandsIn program.now.code strand.old }
     ensures stands { OnOk result (StandsIn program.now.code strand.new) }
@@ -273,7 +273,7 @@ fn ends(strand: &mut Strand, program: &Program, number: i64) -> Result<(), Fail>
     }
 }
 
-// Both strands of a fork end and are joined: what the strand that forked wants then.
+// Lets both strands of a fork end, and joins them. Returns what the strand that forked wants then.
 fn want_behind(left: Strand, right: Strand, program: &Program) -> Result<Want, Fail>
     requires left { StandsIn program.now.code left }
     requires right { StandsIn program.now.code right }
@@ -301,7 +301,7 @@ fn want_behind(left: Strand, right: Strand, program: &Program) -> Result<Want, F
     Ok(want?)
 }
 
-// The same where its size is limited so.
+// Returns what the strand that forked wants behind the fork, with this limit on its size.
 fn want_after_join(alloc: Global, size: u32) -> Result<Want, Fail> {
     let program = program(alloc, &forks())?;
     let want = want_of(alloc, &program, size);
@@ -309,7 +309,7 @@ fn want_after_join(alloc: Global, size: u32) -> Result<Want, Fail> {
     want
 }
 
-// What the right strand of a fork of a program wants behind it.
+// Returns what the strand that forked wants behind the fork of a program, with this limit on its size.
 fn want_of(alloc: Global, program: &Program, size: u32) -> Result<Want, Fail> {
     let mut right = strand_of(alloc, program, within(1, size))?;
     match forked(alloc, &mut right, program) {

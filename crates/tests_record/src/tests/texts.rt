@@ -2,7 +2,7 @@ use cw_text::{TextKind, TextRefusal, print_program, read_program};
 use std::alloc::{AllocError, Global};
 use std::test::Fail;
 
-// What a text reads as. Which program it is, the contract of the reader and its worked texts say.
+// What a text reads as. Which program it is, the reader's contract and its examples say.
 #[derive(Clone, Copy, PartialEq, Eq, Debug)]
 enum Reading {
     Program,
@@ -18,7 +18,7 @@ fn read_as(alloc: Global, text: &[u8]) -> Reading {
     }
 }
 
-// The begin, so often the opening, the core, so often the closing, the end.
+// Makes a text: the begin, then the opening `count` times, the core, the closing `count` times, and the end.
 fn nested(
     alloc: Global,
     [begin, opening, core, closing, end]: [&[u8]; 5],
@@ -36,7 +36,7 @@ fn nested(
     Ok(text)
 }
 
-// A program followed by blanks, so many bytes in all, and then these.
+// Makes a program followed by blanks, `length` bytes in all, and then `end`.
 fn padded(alloc: Global, length: usize, end: &[u8]) -> Result<Vec<u8>, AllocError> {
     let mut text = b"fn main() {}".to_vec(alloc)?;
     text.resize(length, b' ')?;
@@ -61,7 +61,7 @@ fn texts_are_read_or_have_their_first_fault(rt: HostRuntime) {
         ),
         (b"fn main( {}", fault(TextKind::Unexpected, 1)),
         (b"fn main() {\n @ }", fault(TextKind::BadChar, 2)),
-        // Bytes that are no characters come before all tokens.
+        // Bytes that are no characters are found before any token.
         (b"fn main() {}\xff", fault(TextKind::NotUtf8, 1)),
         (b"fn main() {\n\xc0\x80}", fault(TextKind::NotUtf8, 2)),
         (b"fn main() {}\n\n\xe2\x82", fault(TextKind::NotUtf8, 3)),
@@ -95,7 +95,7 @@ fn depth_is_limited(rt: HostRuntime) -> Result<(), Fail> {
     Ok(())
 }
 
-// The length comes before all else.
+// The length is checked first.
 #[test]
 fn length_is_limited(rt: HostRuntime) -> Result<(), Fail> {
     let table: [(usize, &[u8], Reading); 2] = [
@@ -109,7 +109,7 @@ fn length_is_limited(rt: HostRuntime) -> Result<(), Fail> {
     Ok(())
 }
 
-// What the program of a text is printed as.
+// Prints the program of a text.
 fn printed(alloc: Global, text: &[u8]) -> Result<Vec<u8>, TextRefusal> {
     let ast = read_program(alloc, text)?;
     Ok(print_program(alloc, &ast)?)

@@ -4,7 +4,7 @@ use cw_tree::{BlockState, Kind, Tree, Turn};
 use std::alloc::Global;
 use std::test::Fail;
 
-// A strand that begins a block and forks in it; the left strand begins another, writes and forks, and the right one is refused.
+// A strand begins a block and forks in it. The left strand begins another block, writes and forks, and the right one is refused.
 #[test]
 fn a_refused_access_has_no_victim_in_one_block(rt: HostRuntime) -> Result<(), Fail> {
     let nodes = vec![in rt.alloc();
@@ -27,7 +27,7 @@ fn a_refused_access_has_no_victim_in_one_block(rt: HostRuntime) -> Result<(), Fa
     Ok(())
 }
 
-// The same cell is written in a block of the left strand, and the right one is refused in the inner of two blocks.
+// The same cell is written in a block of the left strand, and the right strand is refused in the inner of two blocks.
 #[test]
 fn the_outermost_block_of_the_asker_is_the_victim(rt: HostRuntime) -> Result<(), Fail> {
     let nodes = vec![in rt.alloc();
@@ -50,7 +50,7 @@ fn the_outermost_block_of_the_asker_is_the_victim(rt: HostRuntime) -> Result<(),
     Ok(())
 }
 
-// A block with a fork is rolled back; its next attempt forks, is committed, and the strand forks once more.
+// A block with a fork is rolled back. Its next attempt forks and is committed, and the strand forks once more.
 fn tried_again(alloc: Global) -> Result<Tree, Fail> {
     let nodes = vec![in alloc;
         (0, Kind::Block, 1),
@@ -71,7 +71,7 @@ fn tried_again(alloc: Global) -> Result<Tree, Fail> {
     grown(alloc, nodes, &ends)
 }
 
-// The name of a node, where it is a strand.
+// Returns the name of a node, if it is a strand.
 fn name_at(tree: &Tree, n: u32) -> Result<Option<String>, OutOfMemory> {
     if (n as usize) < tree.nodes().len() && tree.is_strand(n) {
         Ok(Some(tree.name(n)?))
@@ -120,7 +120,7 @@ fn forks_have_numbers_and_strands_have_sides(rt: HostRuntime) -> Result<(), Fail
     Ok(())
 }
 
-// A strand in a strand, and so on, a million nodes deep.
+// Strands in strands, a million nodes deep.
 #[test]
 fn a_deep_tree_is_walked_named_and_dropped(rt: HostRuntime) -> Result<(), Fail> {
     let mut tree = Tree::new(rt.alloc())?;
