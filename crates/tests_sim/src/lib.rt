@@ -1,5 +1,4 @@
-//! Tests of a simulation by its public call, and nothing else: they stand here and not with `cw_sim`, so that that is proved once.
-//! Stands on the parts that they try.
+//! Tests of a simulation by its public call. They are not with `cw_sim`, so that it is proved once.
 #![tactic(auto)]
 
 #[cfg(test)]

@@ -16,7 +16,7 @@ use cw_tree::Tree;
 use std::alloc::Global;
 use std::test::Fail;
 
-// So many attempts, columns and moves that none of these limits is met.
+// Limits with enough attempts, columns and moves that none is met.
 const WIDE: Limits = Limits {
     fuel: 1000,
     size: 1000,
@@ -37,7 +37,7 @@ const fn for_moves(moves: u64) -> Limits {
     Limits { moves, ..WIDE }
 }
 
-// What is run, by so many workers, of which these are listed.
+// What is run, by how many workers, and in which turns.
 #[derive(Clone, Copy, Drop)]
 struct Run<'a> {
     text: &'a str,
@@ -75,7 +75,7 @@ fn name(alloc: Global, tree: &Tree, strand: u32) -> Result<String, Fail> {
     }
 }
 
-// How a run ended, with its number of refused accesses.
+// Writes how a run ended, with its number of refused accesses.
 fn shown(alloc: Global, record: &Record) -> Result<String, Fail> {
     let refused = record.conflicts.len();
     Ok(match &record.end {
@@ -96,7 +96,7 @@ fn shown(alloc: Global, record: &Record) -> Result<String, Fail> {
     })
 }
 
-// The record of a run, which one memory replays.
+// Returns the record of a run, which one memory replays.
 fn record(alloc: Global, run: Run) -> Result<Record, Fail> {
     if run.workers == 0 || run.limits.strands == 0 || run.list.iter().any(|w| *w >= run.workers) {
         return Err("no such workers".into());

@@ -9,7 +9,7 @@ const fn sized(size: u32) -> Limits {
     Limits { size, ..WIDE }
 }
 
-// What a node is: its stamp, of a block its end, and of a cancel the cells that are put back, each with its value.
+// Writes a node: its stamp, the end of a block, and for a cancel the cells that are put back, each with its value.
 fn told(alloc: Global, node: &Node) -> Result<String, Fail> {
     let (stamp, end) = (node.stamp, node.end);
     Ok(match &node.kind {
@@ -32,7 +32,7 @@ fn told(alloc: Global, node: &Node) -> Result<String, Fail> {
     })
 }
 
-// The nodes of a tree, depth first.
+// Writes the nodes of a tree, depth first.
 fn nodes(alloc: Global, tree: &Tree) -> Result<String, Fail> {
     let mut text = String::new(alloc);
     for node in tree.nodes() {
@@ -75,7 +75,7 @@ const TRIED_TURNS: [u32; 14] = [0, 0, 1, 0, 0, 1, 1, 1, 1, 1, 0, 0, 0, 1];
 
 const FAULTY_TURNS: [u32; 8] = [0, 1, 1, 1, 1, 1, 1, 0];
 
-// How a run ends, its tree, and how long its order is.
+// How a run ends, its tree, and the length of its order.
 #[derive(Drop)]
 struct Row<'a> {
     run: Run<'a>,
@@ -111,14 +111,14 @@ fn rows<'a>() -> [Row<'a>; 15] {
             tree: "| block 1-12 write 2 fork 3| block 4-8 write 5 cancel 6 1=0 write 7| cancel 9 0=0 1=0 write 10 write 11",
             picks: 11,
         },
-        // what stands before the block stays
+        // what was written before the block stays
         Row {
             run: asked(BESIDE, 1, &[], WIDE),
             end: "finished [1, 0] [] 0",
             tree: "| fork 1| write 2| block 3-7 write 4 cancel 5 0=1 write 6",
             picks: 6,
         },
-        // and so does what another strand wrote between its begin and its first access
+        // so does what another strand wrote between the block's begin and its first access
         Row {
             run: asked(BESIDE, 2, &[0, 1, 1, 0, 1, 1, 1, 1], WIDE),
             end: "finished [1, 0] [] 0",
@@ -151,7 +151,7 @@ fn rows<'a>() -> [Row<'a>; 15] {
             tree: "| fork 1| block 2-0 write 3| block 4-0 block 5-9 write 6 cancel 7 1=0 write 8 tried",
             picks: 0,
         },
-        // what was written in a rolled-back attempt alone is not put back
+        // what was written only in a rolled-back attempt is not put back
         Row {
             run: asked(TRIED, 2, &TRIED_TURNS, WIDE),
             end: "finished [0, 0, 0] [3] 1",
