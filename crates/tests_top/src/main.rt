@@ -1,6 +1,5 @@
-//! A table of worked sources: each source of standard input, with `#` between them, is run depth first by the top call in memory, and what
-//! it answers is printed: the status, the note and the text.
-//! Stands on `cw_top` and `cw_io`; its tests, of what the worked sources cannot show, on `cw_record` and what is below it too.
+//! A table of example sources. Each source of standard input, with `#` between them, is run depth first by the top call in memory,
+//! and the answer is printed: the status, the note and the text. The tests try what such sources cannot show.
 #![tactic(auto)]
 
 use cw_io::{OpenGate, SureSink, SureSource};

@@ -15,7 +15,7 @@ mod threads;
 
 const COUNTS: &[u8] = b"cell c; fn main() { c = c + 1; out c; }";
 
-// What tests look at of a reply: none of them holds the run itself.
+// What tests look at in a reply, without the run itself.
 #[derive(Drop)]
 struct Said {
     status: u8,
@@ -31,7 +31,7 @@ fn strings(alloc: Global, words: &[&str]) -> Result<Vec<String>, Fail> {
     Ok(strings)
 }
 
-// The one function that makes the top call.
+// Makes the top call; no other function here does.
 fn answer_at<R: AllocGlobal + Threads + Wait + Sync, S: Source, K: Sink, G: Gate>(
     rt: &R,
     words: &[&str],
@@ -67,7 +67,7 @@ fn ask<R: AllocGlobal + Threads + Wait + Sync, S: Source, K: Sink>(
     })
 }
 
-// What is said and written of a sink that takes so many bytes at a time, where that call fails.
+// Returns the reply, and what was written to a sink that takes at most `most` bytes at a time and fails at `call`.
 fn told<R: AllocGlobal + Threads + Wait + Sync>(
     rt: &R,
     most: usize,
@@ -81,7 +81,7 @@ fn told<R: AllocGlobal + Threads + Wait + Sync>(
     Ok((said, sink.taken().to_vec(rt.alloc())?))
 }
 
-// The status and the text of a run of this source.
+// Returns the status and the text of a run of this source.
 fn ran<R: AllocGlobal + Threads + Wait + Sync>(
     rt: &R,
     words: &[&str],
@@ -93,7 +93,7 @@ fn ran<R: AllocGlobal + Threads + Wait + Sync>(
     Ok((said.status, sink.taken().to_vec(rt.alloc())?))
 }
 
-// The status of such a run at this gate.
+// Returns the status of such a run at this gate.
 fn status_at<R: AllocGlobal + Threads + Wait + Sync, G: Gate>(
     rt: &R,
     words: &[&str],
@@ -106,7 +106,7 @@ fn status_at<R: AllocGlobal + Threads + Wait + Sync, G: Gate>(
     Ok(reply.status)
 }
 
-// What is said and written where that call of a source fails that gives a byte at a time.
+// Returns the reply, and what was written, for a source that gives one byte at a time and fails at `call`.
 fn read_by_bytes<R: AllocGlobal + Threads + Wait + Sync>(
     rt: &R,
     call: u64,
@@ -118,7 +118,7 @@ fn read_by_bytes<R: AllocGlobal + Threads + Wait + Sync>(
     Ok((said, sink.taken().to_vec(rt.alloc())?))
 }
 
-// What is said and written of a source, and whether it was read to its end.
+// Returns the reply, what was written, and whether the source was read to its end.
 fn read_to_end<R: AllocGlobal + Threads + Wait + Sync>(
     rt: &R,
     words: &[&str],
@@ -131,7 +131,7 @@ fn read_to_end<R: AllocGlobal + Threads + Wait + Sync>(
     Ok((said, sink.taken().to_vec(rt.alloc())?, is_read))
 }
 
-// A program followed by blanks, so many bytes in all.
+// Makes a program followed by blanks, `length` bytes in all.
 fn padded(alloc: Global, length: usize) -> Result<Vec<u8>, Fail> {
     let mut text = b"fn main() {}".to_vec(alloc)?;
     for _ in text.len()..length {
@@ -140,7 +140,7 @@ fn padded(alloc: Global, length: usize) -> Result<Vec<u8>, Fail> {
     Ok(text)
 }
 
-// The worked sources of `tests_top` are too short to show this.
+// The example sources of `tests_top` are too short to show this.
 #[test]
 fn a_source_may_have_so_many_bytes(rt: HostRuntime) -> Result<(), Fail> {
     for (length, status) in [(1_048_576, 0), (1_048_577, 5), (1_100_000, 5)] {
@@ -172,7 +172,7 @@ fn the_words_are_read_first(rt: HostRuntime) -> Result<(), Fail> {
     Ok(())
 }
 
-// The source was read to its end before.
+// The source is read to its end before.
 #[test]
 fn the_number_of_words_comes_last(rt: HostRuntime) -> Result<(), Fail> {
     let table: [(&[u8], &[&str], u8, &[u8]); 4] = [
@@ -191,7 +191,7 @@ fn the_number_of_words_comes_last(rt: HostRuntime) -> Result<(), Fail> {
     Ok(())
 }
 
-// Of a sink that takes a byte at a time, each call fails in turn: a front was written then, and the run is kept.
+// A sink takes a byte at a time, and each call fails in turn. A front was written then, and the run is kept.
 #[test]
 fn a_write_that_fails_keeps_the_run(rt: HostRuntime) -> Result<(), Fail> {
     let text = b"out 1\nc = 1\nend\n";
@@ -212,7 +212,7 @@ fn a_front_is_written_before_a_write_that_fails(rt: HostRuntime) -> Result<(), F
     Ok(())
 }
 
-// Of a source that gives a byte at a time, each call fails in turn: nothing was written then.
+// A source gives a byte at a time, and each call fails in turn. Nothing was written then.
 #[test]
 fn a_read_that_fails_writes_nothing(rt: HostRuntime) -> Result<(), Fail> {
     for call in 1..=41u64 {

@@ -29,7 +29,7 @@ fn record<R: AllocGlobal + Threads + Wait + Sync>(rt: &R, text: &[u8]) -> Result
     }
 }
 
-// What a check says where the run ended so.
+// Returns what a check says if the run ended with `end`.
 fn with_end(alloc: Global, mut run: Record, end: RecordEnd) -> Result<Checked, Fail>
     requires { TakesWords run.program (length run.words) }
 {
@@ -37,7 +37,7 @@ fn with_end(alloc: Global, mut run: Record, end: RecordEnd) -> Result<Checked, F
     Ok(check(alloc, &run)?)
 }
 
-// The end under other picks.
+// Returns the end under other picks.
 fn end_with_picks(alloc: Global, mut run: Record, list: Seq<u32>) -> Result<SerialEnd, Fail>
     requires { TakesWords run.program (length run.words) }
 {
@@ -58,7 +58,7 @@ fn finished(alloc: Global, memory: &[i64], outputs: &[i64]) -> Result<RecordEnd,
     })
 }
 
-// What a check says where the picks are these.
+// Returns what a check says if the picks are these.
 fn with_picks(alloc: Global, mut run: Record, list: Seq<u32>, last: u32) -> Result<Checked, Fail>
     requires { TakesWords run.program (length run.words) }
 {
@@ -67,7 +67,7 @@ fn with_picks(alloc: Global, mut run: Record, list: Seq<u32>, last: u32) -> Resu
     Ok(check(alloc, &run)?)
 }
 
-// The tree of `COUNTS` where its first access read this.
+// The tree of `COUNTS` if its first access read `value`.
 fn counts_tree(alloc: Global, value: i64) -> Result<Tree, Fail> {
     let mut tree = Tree::new(alloc)?;
     tree.add(0, Kind::Read { cell: 0, value }, 1)?;
@@ -77,7 +77,7 @@ fn counts_tree(alloc: Global, value: i64) -> Result<Tree, Fail> {
     Ok(tree)
 }
 
-// What a check says where the tree is this.
+// Returns what a check says if the tree is this one.
 fn with_tree(alloc: Global, mut run: Record, tree: Tree) -> Result<Checked, Fail>
     requires { TakesWords run.program (length run.words) }
 {
@@ -121,7 +121,7 @@ fn an_end_of_another_kind_is_told_by_its_number(rt: HostRuntime) -> Result<(), F
 
 #[test]
 fn another_order_is_refused(rt: HostRuntime) -> Result<(), Fail> {
-    // the run's own, one that leaves the begun block early, one that comes to another end, and one whose last strand is another
+    // The run's own picks; some that leave the begun block early; some that lead to another end; and some with another last strand.
     let table: [(&[u32], u32, Checked); 4] = [
         (&[1, 1, 1, 2], 0, Checked::Agrees),
         (&[1, 2, 1, 1], 0, disagree(1, 0, 4)),

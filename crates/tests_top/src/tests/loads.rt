@@ -6,7 +6,7 @@ use std::sync::atomic::{AtomicU64, Ordering};
 use std::test::Fail;
 use std::thread::Threads;
 
-// What is looked at of a load.
+// What tests look at in a load.
 #[derive(Drop)]
 struct Loaded {
     status: u8,
@@ -52,7 +52,7 @@ fn loads_write_their_sum(rt: HostRuntime) -> Result<(), Fail> {
     Ok(())
 }
 
-// The threads of a load come to the gate, and one worker does not.
+// The threads of a load call the gate, and a single worker does not.
 #[test]
 fn several_workers_of_a_load_come_to_the_gate(rt: HostRuntime) -> Result<(), Fail> {
     for (workers, is_met) in [("--workers=1", false), ("--workers=2", true)] {

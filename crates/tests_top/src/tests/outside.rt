@@ -5,7 +5,7 @@ use std::sync::atomic::{AtomicU64, Ordering};
 use std::test::Fail;
 use std::thread::Threads;
 
-// The status and the text over a sink that takes all that it is given, and has so much room.
+// Returns the status and the text over a sink that takes all it is given, and has room for `room` bytes.
 fn by_all<R: AllocGlobal + Threads + Wait + Sync>(
     rt: &R,
     room: usize,
@@ -16,7 +16,7 @@ fn by_all<R: AllocGlobal + Threads + Wait + Sync>(
     Ok((said.status, sink.taken().to_vec(rt.alloc())?))
 }
 
-// The same over one that takes four bytes at a time.
+// Returns the same over a sink that takes four bytes at a time.
 fn by_fours<R: AllocGlobal + Threads + Wait + Sync>(
     rt: &R,
     room: usize,
@@ -27,7 +27,7 @@ fn by_fours<R: AllocGlobal + Threads + Wait + Sync>(
     Ok((said.status, sink.taken().to_vec(rt.alloc())?))
 }
 
-// A text of 16 bytes: a sink takes it all, and tells it where it has the room.
+// A text of 16 bytes. A sink takes it all, and tells it if it has the room.
 #[test]
 fn a_sink_without_room_takes_the_text(rt: HostRuntime) -> Result<(), Fail> {
     let text = b"out 1\nc = 1\nend\n".as_slice();
@@ -42,7 +42,7 @@ fn a_sink_without_room_takes_the_text(rt: HostRuntime) -> Result<(), Fail> {
     Ok(())
 }
 
-// A gate that counts who comes by.
+// A gate that counts its calls.
 #[derive(Drop)]
 pub(super) struct Counter {
     pub(super) calls: AtomicU64,
@@ -54,7 +54,7 @@ impl Gate for Counter {
     }
 }
 
-// One worker or virtual ones: nobody has to be held.
+// With one worker, or with virtual ones, nobody has to be held.
 #[test]
 fn no_worker_comes_to_the_gate(rt: HostRuntime) -> Result<(), Fail> {
     let spawning = b"cell c; fn main() { spawn { atomic { c = 1; } } atomic { c = 2; } }";

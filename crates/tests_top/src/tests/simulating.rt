@@ -5,11 +5,11 @@ use std::sync::Wait;
 use std::test::Fail;
 use std::thread::Threads;
 
-// A block of the right strand, within another one, meets what a block of the left strand wrote.
+// A block of the right strand, inside another one, meets what a block of the left strand wrote.
 const REFUSED: &[u8] =
     b"cell c; fn main() { spawn { atomic { c = 1; } } atomic { atomic { c = 2; } } }";
 
-// Two workers, who move in these turns, with one option more.
+// Simulates two workers, who move in these turns, with one more option.
 fn simulated<R: AllocGlobal + Threads + Wait + Sync>(
     rt: &R,
     text: &[u8],

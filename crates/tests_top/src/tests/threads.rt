@@ -6,10 +6,10 @@ use std::sync::atomic::{AtomicU64, Ordering};
 use std::test::Fail;
 use std::thread::Threads;
 
-// However full the machine is, no block spends its attempts.
+// No block spends its attempts, however busy the machine is.
 const PATIENT: &str = "--aborts=1000000000";
 
-// Two blocks in one, on two strands.
+// Two blocks inside one, on two strands.
 const TWO: &[u8] =
     b"cell c; fn main() { atomic { spawn { atomic { c = c + 1; } } atomic { c = c + 1; } } }";
 
@@ -65,10 +65,10 @@ fn threads_come_to_what_one_memory_does(rt: HostRuntime) -> Result<(), Fail> {
     Ok(())
 }
 
-// So many turns are waited at most.
+// The most turns of a wait.
 const MOST_TURNS: u64 = 100_000_000;
 
-// A gate that holds the first of two workers that comes to a commit, until the other has come to an access twice.
+// A gate that holds the first of two workers that reaches a commit, until the other one has reached an access twice.
 #[derive(Drop)]
 struct Holding {
     held: AtomicU64,
@@ -87,7 +87,7 @@ impl Holding {
         }
     }
 
-    // How often a worker came to an access.
+    // Returns how often a worker reached an access.
     fn accesses(&self, worker: u32) -> &AtomicU64 {
         if worker == 0 {
             &self.first
@@ -124,7 +124,7 @@ impl Gate for Holding {
     }
 }
 
-// The status of a run of two workers at this gate, and whether something was refused.
+// Returns the status of a run of two workers at this gate, and whether an access was refused.
 fn held<R: AllocGlobal + Threads + Wait + Sync>(
     rt: &R,
     gate: &Holding,
@@ -141,7 +141,7 @@ fn held<R: AllocGlobal + Threads + Wait + Sync>(
     Ok((reply.status, was_refused))
 }
 
-// So two threads are at work at the same time, and one meets what the other has not committed.
+// Two threads therefore work at the same time, and one meets what the other has not committed.
 #[test]
 fn a_worker_that_is_held_is_met_by_the_other(rt: HostRuntime) -> Result<(), Fail> {
     let gate = Holding::new();
@@ -153,7 +153,7 @@ fn a_worker_that_is_held_is_met_by_the_other(rt: HostRuntime) -> Result<(), Fail
     Ok(())
 }
 
-// A gate that holds the first of three workers until the two others have come by.
+// A gate that holds the first of three workers until both others have called it.
 #[derive(Drop)]
 struct Meeting {
     second: AtomicU64,
@@ -193,7 +193,7 @@ impl Gate for Meeting {
     }
 }
 
-// So three workers are three threads.
+// Three workers are therefore three threads.
 #[test]
 fn as_many_threads_as_asked_come_to_the_gate(rt: HostRuntime) -> Result<(), Fail> {
     let table: [(&[&str], &[u8]); 2] = [
