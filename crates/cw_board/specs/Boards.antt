@@ -57,7 +57,7 @@ pub record AreOfCells (cells : ℕ) (js : List (List Entry)) : Type 0 where
   pub many : length js ≡ cells
   pub each : (n : ℕ) (es : List Entry) → slice_get js n ≡ Some es → IsOfOneCell es
 
--- A token between two calls, at this table with so many columns. It has no turn. The gaps that it and the strands that wait use
+-- A token between two calls, at this table with `columns` columns. It has no turn. The gaps that it and the strands that wait use
 -- exist. It owns a column for each of its logs.
 pub record IsAt (id : TableId) (columns : ℕ) (t : StrandToken) : Type 0 where
   pub table : t.seat.table_id ≡ id

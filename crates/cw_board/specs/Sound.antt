@@ -21,7 +21,7 @@ ClimbOut ns [] ks = Unit {0}
 ClimbOut ns (o ∷ os) [] = ⊥
 ClimbOut ns (o ∷ os) (k ∷ ks) = Climbs ns o.strand o.place k × ClimbOut ns os ks
 
--- of the blocks around each waiting place, at least that many belong to its own strand
+-- the blocks around each waiting place are at least those outside its strand and its strand's own
 abbrev pub OwnOut : List Open → List ℕ → Type 0
 OwnOut [] ks = Unit {0}
 OwnOut (o ∷ os) [] = ⊥

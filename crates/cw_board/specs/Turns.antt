@@ -62,7 +62,7 @@ pub record HasTierOver (b : Board) (y : Slot) (t u : StrandToken) : Type 0 where
   pub track : u.track ≡ t.track
   pub token : token_of u ≡ token_of t
 
--- It has the turn of the tier, which is to come home with so many columns in use. Its own column and gap are among them.
+-- It has the turn of the tier, whose columns in use are as many as that turn says. Its own column and gap are among them.
 pub record HasTier (b : Board) (y : Slot) (u : StrandToken) : Type 0 where
   pub few : newest_used (view_of u).turns ≤ columns_of b
   pub column : (view_of u).column < newest_used (view_of u).turns
@@ -77,7 +77,7 @@ pub record HasCell (a : Aim) (x : CellParts) (u : StrandToken) : Type 0 where
   pub there : newest_cell (view_of u).turns ≡ Some lay
   pub same : IsAsItLay lay x
 
--- what is told comes with the tier's turn
+-- what the strand tells belongs to the tier's turn
 abbrev pub IsOfTier : Home → Type 0
 IsOfTier (home.Refused c) = ⊥
 IsOfTier home.Plain = Unit {0}

@@ -162,7 +162,7 @@ pub record HasStates {A : Type 0} (s : Strands A) (cs : Course) (all : List Log)
       → (let p = place (tree_of all) (base_of all c + x) in
       (s.want (reached p) ≡ want.Fault kind) × HasNoOpenFork s (tree_of all) before after reached p)
 
--- Of strands alone: what the logs of a course tell is what strands of a coherent record do.
+-- Strands alone: what the logs of a course tell is what strands of a coherent record do.
 abbrev pub CoursesFollow : Type 0 → Type 0
 CoursesFollow A =
     (s : Strands A) (cs : Course) → Stops s s.start cs → AreApart (logs_of cs 0 0 0) → IsNumbered (tree_of (logs_of cs 0 0 0)) → HasStates s cs (logs_of cs 0 0 0)

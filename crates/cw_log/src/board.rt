@@ -122,7 +122,7 @@ pub trait SharedBoard: Sync {
         requires { MayHalt (budget self.now) (of token.old) halt }
         ensures { of token.new ≡ halted (of token.old) halt };
 
-    /// Whether some strand has stopped.
+    /// Whether some strand was found to have stopped. False proves nothing.
     fn halted(&self, token: &mut Self::Token) -> bool
         ensures { of token.new ≡ was_told (of token.old) result };
 

@@ -72,7 +72,7 @@ LeavesCell aims.Fork c d = IsAsItLay c d
 LeavesCell aims.Split c d = IsAsItLay c d
 LeavesCell aims.Merge c d = IsAsItLay c d
 
--- with a cell's turn nothing is told, or a refused access of that cell
+-- with a cell's turn a strand tells nothing, or a refused access of that cell
 abbrev pub IsOfCell : (cell : ℕ) → Home → Type 0
 IsOfCell n home.Plain = Unit {0}
 IsOfCell n (home.Refused k) = k.cell ≡ n

@@ -71,7 +71,7 @@ pub record HasHalted (views : List View) : Type 0 where
   pub there : get_elem? views seat ≡ some knows
   pub halted : IsTrue (is_some knows.halt)
 
--- The stop flag is set only if a seat has halted, and a seat was told so only then.
+-- The stop flag is set only if a seat has halted. A seat learns of a halt only then, too.
 pub record StopWord (cells : ℕ) (words : List ℕ) (views : List View) : Type 0 where
   pub word : 0 < slice_index words (stop_word cells) → HasHalted views
   pub told : (k : ℕ) (v : View) → get_elem? views k ≡ some v → v.told ≡ true → HasHalted views

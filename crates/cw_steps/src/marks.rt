@@ -112,7 +112,7 @@ impl Shared {
         });
     }
 
-    /// Whether the stop flag is set.
+    /// Whether the stop flag is set. It is set only once some token has halted.
     pub fn stopped(&self, token: &mut StrandToken) -> bool
         requires table { IsTokenOf self.now token.old }
         ensures table { IsTokenOf self.now token.new }

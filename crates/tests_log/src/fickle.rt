@@ -116,7 +116,7 @@ impl Fickle {
         }
     }
 
-    /// Refuses an access. The conflict has a drawn victim, and zeros for all that the board does not know.
+    /// Refuses an access. Only the drawn victim of the conflict means something.
     fn refuse(
         &self,
         token: &mut StrandToken,

@@ -264,7 +264,7 @@ impl StrandToken {
         self.told = self.told || halted;
     }
 
-    /// Adds a refused access, with its conflict.
+    /// Adds a refused access, with its conflict. The board returns another conflict, which is equal.
     pub fn refuse(&mut self, conflict: Conflict) -> Result<(), OutOfMemory>
         ensures ok { OnOk result (self.new ≡ refused self.old conflict) }
         ensures err { OnErr result (self.new ≡ self.old) }

@@ -2,7 +2,7 @@
 use Rattle.std.specs.Prelude.{ℕ, ◌<◌, ◌-◌, List, [], ◌∷◌, map}
 use Rattle.cw_body.specs.Bodies.{PendingBegin}
 
--- of how many forks a strand of this level was the right one at this begin
+-- the number of forks of which a strand of this level was the right one at this begin
 abbrev pub level_at_begin : (level : ℕ) → PendingBegin → ℕ
 level_at_begin level p = level - p.forks
 
