@@ -31,8 +31,7 @@ module _ (s : Strands StrandState) where
     pub since : b.level ≤ level
     pub inside : Inside s (begin_of b) (level - b.level) inner there
 
-  -- the strand is inside the block of each begin, and each block has begun, and not ended, one block more than the one before it in
-  -- the list
+  -- The strand is inside each of these blocks, listed innermost first. Inside each further one, one more block is begun and not ended.
   abbrev pub IsInsideEach : (level : ℕ) → (there : StrandState) → (inner : ℕ) → List Begin → Type 0
   IsInsideEach level there inner [] = Unit {0}
   IsInsideEach level there inner (b ∷ bs) = IsInside level there inner b × IsInsideEach level there (suc inner) bs

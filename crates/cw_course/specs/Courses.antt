@@ -51,7 +51,7 @@ module _ {A : Type 0} (s : Strands A) where
           → Goes (s.left b) ls l → IsTrue (is_over (s.want l)) → Goes (s.right b) rs r → IsTrue (is_over (s.want r))
           → Goes a (fork cs column stamp ls rs) (s.joined r l)
 
-    -- Like `Goes`, but may break off: in a pending block, or in the strands of a fork, which then is the last thing in the course.
+    -- Like `Goes`, but may break off: in a pending block, or in the strands of a fork. Either is then the last thing in the course.
     pub data Stops : A → Course → Type 0 where
       there : {a b : A} {cs : Course} → Goes a cs b → Stops a cs
       within : {a b : A} {cs js : Course} {stamp : ℕ} → Goes a cs b → s.want b ≡ want.Begin → Stops (s.answer b Nothing) js

@@ -339,7 +339,7 @@ stood_by c (o ∷ os) = record c {
   tail = plain_tail;
 }
 
--- this side is that of a strand whose right strand has a token of its own
+-- on this side of a fork, the right strand has a token of its own
 abbrev pub IsBeside : Side → Type 0
 IsBeside (Beside fork) = Unit {0}
 IsBeside (First right) = ⊥
