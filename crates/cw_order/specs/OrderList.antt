@@ -9,11 +9,11 @@ use Rattle.cw_order.specs.Ring.{IsRing, elements_of, path}
 abbrev pub order_of_list : Inside → Order
 order_of_list a = record { elements = elements_of a.ring a.count; room = a.ring.room }
 
--- the places that are in no use, of so many that were made
+-- the places that are not in use, of the `made` ones
 abbrev pub free_from : Ring → (made count free : ℕ) → List ℕ
 free_from r made count free = walk r.next.items free (made - count)
 
--- so many places were made, of which the ring has so many, and the others are linked from `free` on
+-- `made` places have been made; the ring has `count` of them, and the others are linked from `free` on
 pub record ArePlaces (r : Ring) (made count free : ℕ) : Type 0 where
   pub places : vec_len r.next ≡ made + 1
   pub within : made ≤ r.room

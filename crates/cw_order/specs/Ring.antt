@@ -8,15 +8,15 @@ use Rattle.cw_order.specs.Links.{AreLinked, AreApart, Rise, walk}
 abbrev pub label_of : Ring → ℕ → ℕ
 label_of r x = slice_index r.labels.items x
 
--- the next label, or the end
+-- the label after that of x, or END if x is the last
 abbrev pub above_of : Ring → ℕ → ℕ
 above_of r x = if slice_index r.next.items x == 0 then END else label_of r (slice_index r.next.items x)
 
--- the head, and the elements
+-- the head, then the elements
 abbrev pub path : List ℕ → List ℕ
 path xs = 0 ∷ xs
 
--- the elements that the links lead to from the head on, so many of them
+-- the first `count` elements that the links lead to from the head
 abbrev pub elements_of : Ring → ℕ → List ℕ
 elements_of r count = walk r.next.items (slice_index r.next.items 0) count
 
@@ -26,7 +26,7 @@ pub record IsRing (r : Ring) (xs : List ℕ) : Type 0 where
   pub rising : Rise 1 (map (label_of r) (path xs)) END
   pub apart : AreApart (path xs)
 
--- the run has just those whose labels are in the range of size labels that has the label of `at`
+-- The run has exactly the elements whose labels share a range with that of `at`: size labels, from a multiple of size on.
 pub record IsRun (r : Ring) (xs : List ℕ) (at size : ℕ) (run : Run) : Type 0 where
   pub start : ℕ
   pub fits : start + run.count ≤ length (path xs)

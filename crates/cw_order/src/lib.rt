@@ -1,6 +1,6 @@
-//! Lists in which it takes one step to tell which of two elements comes first, and the counter of such steps.
-//! Stands on `cw_base`.
-//! Contracts see an `OrderList` as `specs/Order.antt` has it: its elements in order and how many it can hold.
+//! Order lists: whether one element comes before another takes one step to tell. Also the counter of such steps.
+//! Use it for elements that are inserted and removed while their order is asked for.
+//! Contracts see an `OrderList` as `specs/Order.antt` has it: its elements in order, and how many it can hold.
 #![tactic(auto)]
 
 mod list;

@@ -12,12 +12,12 @@ use std::alloc::Global;
 use std::marker::Model;
 use std::sync::ledger::Ledger;
 
-/// The list holds as many elements as it can.
+/// The list is full: it holds as many elements as it has room for.
 #[derive(Clone, Copy, PartialEq, Eq, Debug)]
 pub struct Full;
 
-/// A list of distinct elements in which `before` takes one step. Of the places that were made, those in no use are linked from
-/// `free` on.
+/// A list of distinct elements in which `before` takes one step. Places that were made and are not in use are linked from `free`
+/// on.
 #[derive(Drop)]
 pub struct OrderList {
     ring: Ring,
@@ -26,14 +26,14 @@ pub struct OrderList {
     free: u32,
 }
 
-/// A place for the next element, and how many were made.
+/// A place for the next element, and the number of places that have been made.
 #[derive(Clone, Copy)]
 struct Free {
     made: u32,
     place: u32,
 }
 
-/// The first place in no use. Where each is in use, one more is made.
+/// Returns the first place that is not in use. If all are in use, makes another one.
 fn free_place(ring: &mut Ring, made: u32, count: u32, free: u32) -> Free
     requires kept { ArePlaces ring.old made count free }
     requires few { count < ring.old.room }
@@ -62,7 +62,7 @@ impl Model for OrderList {
 }
 
 impl OrderList {
-    /// An empty list. No later call takes memory.
+    /// Returns an empty list with room for `n` elements. No later call allocates.
     pub fn with_room(alloc: Global, n: u32) -> Result<OrderList, OutOfMemory>
         ensures empty { IfOk result (λ l. l.elements ≡ []) }
         ensures room { IfOk result (λ l. l.room ≡ n) }
@@ -81,7 +81,7 @@ impl OrderList {
         self.count == self.ring.room()
     }
 
-    /// Adds a new element right after the given one, or first where none is given.
+    /// Inserts a new element right after `at`, or first if `at` is `None`. Returns the new element.
     pub fn insert_after(&mut self, at: Option<u32>) -> Result<u32, Full>
         requires { ForSome at (Contains self.old.elements) }
         ensures new { IfOk result (λ e. ¬ Contains self.old.elements e) }
@@ -117,7 +117,7 @@ impl OrderList {
         self.count -= 1;
     }
 
-    /// Whether `a` stands before `b`.
+    /// Returns whether `a` comes before `b`.
     pub fn before<L: Ledger>(&self, a: u32, b: u32, steps: &mut Steps<L>) -> bool
         requires first { Contains self.now.elements a }
         requires second { Contains self.now.elements b }

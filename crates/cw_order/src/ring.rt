@@ -5,21 +5,21 @@ use cw_base::{OutOfMemory, put};
 use std::alloc::Global;
 use std::sync::ledger::Ledger;
 
-/// What stands before the first element and after the last one.
+/// The place before the first element and after the last one.
 pub(crate) const HEAD: u32 = 0;
 
-/// Above each label.
+/// Greater than every label.
 pub(crate) const END: u64 = u64::MAX;
 
-/// Elements in a row: the first one, and how many.
+/// Consecutive elements: the first one, and how many there are.
 #[derive(Clone, Copy)]
 struct Run {
     first: u32,
     count: u32,
 }
 
-/// The head and the elements of a list as a ring of links, with labels that rise from the head on. Numbers that are not
-/// in the ring are linked by `next` alone. Places are made as they are needed, so memory that no element uses is not touched.
+/// The head and the elements of a list, as a ring of links with labels that rise from the head on. Places outside the ring are
+/// linked by `next` alone. Places are made as they are needed, so memory that no element uses is not touched.
 #[derive(Drop)]
 pub(crate) struct Ring {
     room: u32,
@@ -41,7 +41,7 @@ impl Ring {
     ghost use Rattle.cw_order.specs.Links.{walk, spread_over, next_with, previous_with, next_without, previous_without};
     ghost use Rattle.cw_order.specs.Ring.{IsRing, IsRun, label_of, above_of, path, elements_of};
 
-    /// The head alone, with room for so many places beside it.
+    /// Returns a ring of the head alone, with room for `room` places beside it.
     pub(crate) fn with_room(alloc: Global, room: u32) -> Result<Ring, OutOfMemory>
         ensures places { IfOk result (λ r. vec_len r.next ≡ 1) }
         ensures room { IfOk result (λ r. r.room ≡ room) }
@@ -58,14 +58,14 @@ impl Ring {
         Ok(ring)
     }
 
-    /// How many places there may be beside the head.
+    /// Returns how many places there can be beside the head.
     pub(crate) fn room(&self) -> u32
         ensures { result ≡ self.now.room }
     {
         self.room
     }
 
-    /// One more place, in no use and linked to the head.
+    /// Makes one more place, which is not in use and is linked to the head, and returns it.
     pub(crate) fn grow(&mut self) -> u32
         requires { vec_len self.old.next ≤ self.old.room }
         ensures place { result ≡ vec_len self.old.next }
@@ -83,8 +83,8 @@ impl Ring {
         place
     }
 
-    /// Whether the label of `a` is below that of `b`. Beside the making of a ring and its room, it is the one call that other files
-    /// have without `&mut`, so nothing there learns the order without a tick.
+    /// Returns whether the label of `a` is below that of `b`. Apart from `with_room` and `room` this is the only call without
+    /// `&mut` that other files have, so no code there learns the order without a tick.
     pub(crate) fn is_before<L: Ledger>(&self, a: u32, b: u32, steps: &mut Steps<L>) -> bool
         requires first { a < vec_len self.now.next }
         requires second { b < vec_len self.now.next }
@@ -118,7 +118,7 @@ impl Ring {
         self.labels[at as usize]
     }
 
-    /// How far the next label, or the end, is above that of `at`.
+    /// Returns how far the next label, or `END`, is above the label of `at`.
     fn gap_after(&self, at: u32) -> u64
         requires place { at < vec_len self.now.next }
         requires rises { label_of self.now at ≤ above_of self.now at }
@@ -130,7 +130,8 @@ impl Ring {
         above - self.label(at)
     }
 
-    /// A label between that of `at` and the next one. Labels change where none is free; `count` is the number of elements.
+    /// Returns a label between that of `at` and the next one. If none is free, it relabels elements first. `count` is the number of
+    /// elements.
     pub(crate) fn label_after(&mut self, at: u32, count: u32) -> u64
         requires place { at < vec_len self.old.next }
         requires few { count < 2 ^ 32 - 1 }
@@ -149,7 +150,7 @@ impl Ring {
         self.label(at) + self.gap_after(at) / 2
     }
 
-    /// Puts `element` into the ring, right after `at`, and answers the number that it was linked to.
+    /// Links `element` into the ring right after `at`, with `label`. Returns the place that `element` was linked to before.
     pub(crate) fn link_after(&mut self, at: u32, element: u32, label: u64) -> u32
         requires at { at < vec_len self.old.next }
         requires element { element < vec_len self.old.next }
@@ -189,13 +190,13 @@ impl Ring {
         self.next[element as usize] = next;
     }
 
-    /// Spreads the labels of the smallest range round that of `at` that is sparse enough, as Bender, Cole, Demaine,
-    /// Farach-Colton and Zito do ("Two simplified algorithms for maintaining order in a list", 2002). A range has 4^k
-    /// labels and begins at a multiple of 4^k; it is sparse enough where at most 2^k of them are in use.
+    /// Spreads the labels of the smallest sparse range around the label of `at`. This is the algorithm of Bender, Cole, Demaine,
+    /// Farach-Colton and Zito ("Two simplified algorithms for maintaining order in a list", 2002). A range has 4^k labels and
+    /// begins at a multiple of 4^k. It is sparse if at most 2^k of its labels are in use.
     //
-    // Once a range is spread, each of its quarters takes 2^k / 4 more elements before it is too dense to be spread by
-    // itself. So an insertion pays for four new labels at each k, and k is at most one above the binary logarithm of the
-    // number of elements. There are fewer than 2^32 elements, so the range of all labels is always sparse enough.
+    // Once a range is spread, each of its quarters takes 2^k / 4 more elements before it is too dense to be spread by itself. So an
+    // insertion pays for four new labels at each k, and k is at most one above the binary logarithm of the number of elements.
+    // There are fewer than 2^32 elements, so the range of all labels is always sparse.
     fn make_room(&mut self, at: u32, count: u32)
         requires place { at < vec_len self.old.next }
         requires few { count < 2 ^ 32 - 1 }
@@ -221,7 +222,8 @@ impl Ring {
         self.spread(HEAD, all, 0, END / u64::from(all));
     }
 
-    /// Those whose labels are in one range with that of `at`, if there are at most so many.
+    /// Returns the elements whose labels are in the same range of `size` labels as that of `at`, if there are at most `most` of
+    /// them.
     fn sparse_run(&self, at: u32, size: u64, most: u32) -> Option<Run>
         requires place { at < vec_len self.now.next }
         requires size { 0 < size }
@@ -254,7 +256,7 @@ impl Ring {
         Some(run)
     }
 
-    /// Gives so many in a row, from `first` on, the labels `base`, `base + gap` and so on.
+    /// Gives the labels `base`, `base + gap` and so on to `count` consecutive elements from `first` on.
     fn spread(&mut self, first: u32, count: u32, base: u64, gap: u64)
         requires place { first < vec_len self.old.next }
         requires fits { base + count * gap < 2 ^ 64 }

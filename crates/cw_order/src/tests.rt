@@ -43,7 +43,7 @@ enum Places {
     AfterAny,
 }
 
-/// One of those that were made, if the new element is to follow one.
+/// Returns an element that was made before, which the new one is to follow. Returns `None` if the new one is to go first.
 fn place(made: &[u32], places: Places, turn: u32, random: u64) -> Option<u32>
     ensures { ForSome result (Contains made.now) }
 {
@@ -79,7 +79,7 @@ fn insert_many(alloc: Global, places: Places, n: u32) -> Result<(), Fail> {
     Ok(())
 }
 
-/// What no clause says: that renumbering stays cheap, wherever the new elements go.
+/// Tests what no clause says: renumbering stays cheap, wherever the new elements go.
 #[test]
 fn many_insertions_end_soon(rt: HostRuntime) -> Result<(), Fail> {
     for places in [
