@@ -1,22 +1,23 @@
 -- The columns of a tier, and what a fork, a split and a merge make of them.
--- A strand column stands for a strand. A trace is named by the column of its head strand, and a fork by that of its left strand, which is odd; its right strand has the next column.
--- Columns 0, 1, 2 .. are in use, each since the fork that made it, and column 0 from the start.
+-- Each strand has a column. A trace is named by the column of its head strand, and a fork by the column of its left strand, which
+-- is odd. The right strand has the next column.
+-- Columns 0, 1, 2 .. are in use: column 0 from the start, each other one since the fork that made it.
 use Rattle.std.specs.Prelude.{ℕ, zero, suc, ◌+◌, ◌-◌, ◌*◌, ◌%◌, ◌==◌, ◌&&◌, ◌||◌, Bool, false, not, nat_le, List, [], ◌∷◌, ◌++◌, map, length, filter, slice_get, slice_set, slice_index, Option, Some, None, is_some, if◌then◌else◌}
 use Rattle.cw_tree.specs.Walks.{has}
 use Rattle.cw_trace.specs.declared.tier.Trace.{Trace}
 
 pub record ColumnTable : Type 0 where
-  -- at most so many columns
+  -- how many columns there can be
   pub room : ℕ
   -- for each column in use: its trace, its gap and the column that it was forked from
   pub owners : List ℕ
   pub gaps : List ℕ
   pub parents : List ℕ
-  -- for each column in use: the trace that it names, if it names one
+  -- for each column in use: the row of the trace that it names, if it names one
   pub traces : List (Option Trace)
-  -- the marks of the traces, where each opens and where it closes
+  -- the marks of all traces in order: where each opens and where it closes
   pub brackets : List ℕ
-  -- for each column in use: the fork outward of its fork, as it was when it was made
+  -- for each column in use: the fork outward of its fork, as it was when the fork was made
   pub outers : List (Option ℕ)
 
 abbrev pub used : ColumnTable → ℕ
@@ -60,23 +61,23 @@ up c t = up_in (trace c t)
 abbrev pub head : ColumnTable → ℕ → ℕ
 head c t = head_in (trace c t)
 
--- the marks of a trace in the list of brackets: where it opens and where it closes
+-- the marks of trace t in the list of brackets: where it opens and where it closes
 abbrev pub opening_mark : ℕ → ℕ
 opening_mark t = 2 * t
 
 abbrev pub closing_mark : ℕ → ℕ
 closing_mark t = 2 * t + 1
 
--- mark b stands somewhere after mark a
+-- mark b comes after mark a
 abbrev pub stands_before : List ℕ → ℕ → ℕ → Bool
 stands_before [] a b = false
 stands_before (x ∷ xs) a b = if x == a then has xs b else stands_before xs a b
 
--- trace t stands within trace outer, and is not outer
+-- trace t lies inside trace outer, and is not outer
 abbrev pub inside : ColumnTable → ℕ → ℕ → Bool
 inside c t outer = stands_before c.brackets (opening_mark outer) (opening_mark t) && stands_before c.brackets (opening_mark t) (closing_mark outer)
 
--- a tier of the root alone
+-- a tier with the root alone
 abbrev pub first_tier : ℕ → ColumnTable
 first_tier room = record {
   room = room;
@@ -89,7 +90,7 @@ first_tier room = record {
 }
 
 -- ## Forks outward of a fork
--- A fork is outward of another that stands inside its left strand.
+-- Fork m is outward of fork n if n lies inside the left strand of m.
 
 abbrev pub fork_in : Option (Option ℕ) → Option ℕ
 fork_in None = None
@@ -98,7 +99,8 @@ fork_in (Some x) = x
 abbrev pub outer : ColumnTable → ℕ → Option ℕ
 outer c i = fork_in (slice_get c.outers i)
 
--- the fork outward of a fork that the strand of a column makes: none where its own fork is split, and that of its own fork where it is the right strand
+-- the fork outward of a fork that the strand of a column makes. A left strand's is its own fork. A right strand has the one outward
+-- of its own fork. There is none if its own fork is split.
 abbrev pub outer_at : ColumnTable → ℕ → Option ℕ
 outer_at c zero = None
 outer_at c (suc n) = if is_trace c (suc n) then None else if suc n % 2 == 1 then Some (suc n) else outer c n
@@ -107,13 +109,13 @@ abbrev pub unless_split : ColumnTable → Option ℕ → Option ℕ
 unless_split c None = None
 unless_split c (Some s) = if is_trace c s then None else Some s
 
--- the fork that has to be split before fork f: the fork outward of it, if that was not split since
+-- the fork that has to be split before fork f: the fork outward of it, if that has not been split since
 abbrev pub before_split : ColumnTable → ℕ → Option ℕ
 before_split c f = unless_split c (outer c f)
 
 -- ## Forks
 
--- two more columns, for a fork of the strand at column p, where word is the word of its gap
+-- the columns after the strand of column p forked, with two more; word is the word of its gap
 abbrev pub forked : ℕ → ℕ → ColumnTable → ColumnTable
 forked word p c =
     let g = if word == 0 then gap c p else used c in
@@ -131,7 +133,7 @@ left_column_of p = p - 1 + p % 2
 
 -- ## Splits and merges
 
--- the owner of column i after trace t was cut at fork f
+-- the owner of column i after trace t was cut at fork f, if it was o before
 abbrev pub part_of : ℕ → ℕ → ℕ → ℕ → ℕ
 part_of t f i o = if i == f + 1 then f + 1 else if (o == t) && nat_le f i then f else o
 
@@ -139,11 +141,11 @@ abbrev pub parts : ℕ → ℕ → ℕ → List ℕ → List ℕ
 parts t f i [] = []
 parts t f i (o ∷ os) = part_of t f i o ∷ parts t f (suc i) os
 
--- the owner of a column after the traces of fork f went back to trace t
+-- the owner of a column after the traces of fork f went back to trace t, if it was o before
 abbrev pub back_to : ℕ → ℕ → ℕ → ℕ
 back_to t f o = if (o == f) || (o == f + 1) then t else o
 
--- numbers go in right after a given one
+-- the list with ns inserted right after `at`
 abbrev pub place_after : ℕ → List ℕ → List ℕ → List ℕ
 place_after at ns [] = []
 place_after at ns (b ∷ bs) = if b == at then b ∷ (ns ++ bs) else b ∷ place_after at ns bs
@@ -163,15 +165,15 @@ abbrev pub or_else : Option ℕ → ℕ → Option ℕ → Option ℕ
 or_else None t u = u
 or_else (Some l) t u = Some t
 
--- what is left of a lead where gap g goes to a part that is cut off
+-- what is left of lead l if gap g goes to a part that is cut off
 abbrev pub kept_lead : Option ℕ → ℕ → Option ℕ
 kept_lead l g = if is_lead l g then None else l
 
--- what is kept for a trace, if there is one
+-- the row of a trace, or a row of 0 and None
 abbrev pub row_in : Option (Option Trace) → Trace
 row_in o = record { head = head_in (trace_in o); lead = lead_in (trace_in o); up = up_in (trace_in o) }
 
--- trace t is cut at the fork f: the columns
+-- the columns after the trace of fork f was cut there; the brackets are as before
 abbrev pub split_columns : ℕ → ColumnTable → ColumnTable
 split_columns f c =
     let t = owner c f in
@@ -186,7 +188,7 @@ split_columns f c =
           (f + 1) (Some (record { head = f + 1; lead = Some (f + 1); up = above }));
     }
 
--- trace t is cut at the fork f
+-- the tier after the trace of fork f was cut there
 abbrev pub split_at : ℕ → ColumnTable → ColumnTable
 split_at f c = record (split_columns f c) { brackets = place_after (opening_mark (owner c f)) (marks f) c.brackets }
 
@@ -194,7 +196,7 @@ split_at f c = record (split_columns f c) { brackets = place_after (opening_mark
 abbrev pub around_fork : ColumnTable → ℕ → ℕ
 around_fork c f = owner c (slice_index c.parents f)
 
--- both traces of the split fork f go back to the trace that it was cut from: the columns
+-- the columns after both traces of the split fork f went back to the trace that they were cut from; the brackets are as before
 abbrev pub merge_columns : ℕ → ColumnTable → ColumnTable
 merge_columns f c =
     let t = around_fork c f in
@@ -203,14 +205,14 @@ merge_columns f c =
       traces = slice_set (slice_set (slice_set c.traces t (Some (record { head = head c t; lead = Some (head c t); up = up c t }))) f None) (f + 1) None;
     }
 
--- both traces of the split fork f go back to the trace that it was cut from
+-- the tier after both traces of the split fork f went back to the trace that they were cut from
 abbrev pub merged : ℕ → ColumnTable → ColumnTable
 merged f c = record (merge_columns f c) { brackets = filter (λ b. not (is_mark_of f b || is_mark_of (f + 1) b)) c.brackets }
 
--- a gap's word is taken by a new outermost block
+-- the words after a block began in gap g: a new outermost block takes the word
 abbrev pub begun_word : List ℕ → ℕ → ℕ → List ℕ
 begun_word ws g stamp = if slice_index ws g == 0 then slice_set ws g stamp else ws
 
--- and given up where that block closes
+-- the words after the block with this begin stamp closed: the word that it took is 0 again
 abbrev pub closed_word : List ℕ → ℕ → ℕ → List ℕ
 closed_word ws g stamp = if slice_index ws g == stamp then slice_set ws g 0 else ws

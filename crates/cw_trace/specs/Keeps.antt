@@ -1,5 +1,6 @@
--- The tier stands for the tree, with all that forks, splits, merges, begins and closes keep.
--- The k-th fork from 0 that got columns has 2 * k + 1 and 2 * k + 2. Joins are the joined forks with columns, whether they had been split or not.
+-- The tier represents the tree, together with all that forks, splits, merges, begins and closes keep.
+-- The k-th fork (from 0) that got columns has the columns 2 * k + 1 and 2 * k + 2. `joins` holds the joined forks with columns,
+-- whether they had been split or not.
 use Rattle.std.specs.Prelude.{◌≡◌, ℕ, ◌+◌, ◌<◌, ◌≤◌, ◌==◌, ◌↔◌, ◌⊎◌, true, false, nat_le, IsTrue, List, length, slice_index, [], ◌∷◌}
 use Rattle.cw_tree.specs.declared.node.Node.{Node}
 use Rattle.cw_tree.specs.Nodes.{stamp_of, is_pending, is_fork}
@@ -8,12 +9,12 @@ use Rattle.cw_trace.specs.Columns.{ColumnTable, used, owner, gap, left_column_of
 use Rattle.cw_trace.specs.Stands.{fork_column, column, outermost_pending, stamp_or_0, Descends}
 use Rattle.cw_trace.specs.Segments.{Segments, Ups, IsTrace, Forks}
 
--- a list of numbers without repeats
+-- no number occurs twice
 abbrev pub Distinct : List ℕ → Type 0
 Distinct [] = Unit {0}
 Distinct (x ∷ xs) = (has xs x ≡ false) × Distinct xs
 
--- the marks in the list of brackets are those of the traces, and one trace stands within another exactly where it descends from it
+-- the brackets hold exactly the marks of the traces, and one trace lies inside another exactly if it descends from it
 pub record Nesting (c : ColumnTable) (cuts joins : List ℕ) : Type 0 where
   pub distinct : Distinct c.brackets
   pub marks : (b : ℕ) → has c.brackets b ≡ true → (x : ℕ) × IsTrace c cuts joins x × ((b ≡ opening_mark x) ⊎ (b ≡ closing_mark x))
@@ -35,9 +36,9 @@ pub record KeepsAt (size : ℕ) (c : ColumnTable) (words : List ℕ) (t : List N
   -- gap words
   pub words_are : (g : ℕ) → g < size → slice_index words g ≡ stamp_or_0 t (outermost_pending t (size) (λ i. gap c i == g))
   pub spare_words : (g : ℕ) → size ≤ g → slice_index words g ≡ 0
-  -- a pending block contains what its trace did after its begin
+  -- a pending block contains what its trace did after the block's begin
   pub contains : (b n : ℕ) → b < length t → n < length t → is_pending t b ≡ true → owner c (column t (size) b) ≡ owner c (column t (size) n) → stamp_of t b < stamp_of t n → is_ancestor t b n ≡ true
-  -- a fork of its trace that was not joined stands beneath it, or it was begun beneath the fork
+  -- a fork of its trace that was not joined lies beneath it, or the block was begun beneath the fork
   pub lines : (b f : ℕ) → is_pending t b ≡ true → is_fork t f ≡ true → fork_column t f + 1 < size → has joins (fork_column t f) ≡ false → owner c (column t (size) b) ≡ owner c (column t (size) f)
       → (is_ancestor t b f ≡ true) ⊎ (fork_column t f ≤ column t (size) b)
 

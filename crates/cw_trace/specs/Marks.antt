@@ -1,14 +1,14 @@
--- What is seen of brackets: their marks in order.
+-- What a caller sees of brackets: their marks in order.
 use Rattle.std.specs.Prelude.{ℕ, List, ◌∷◌, [], Option, Some, None}
 use Rattle.cw_trace.specs.Columns.{place_after}
 
 pub record Marks : Type 0 where
-  -- from the first to the last
+  -- in order
   pub marks : List ℕ
-  -- each is smaller
+  -- above each mark
   pub room : ℕ
 
--- the marks with m right after the given one, or first where none is given
+-- the marks with m right after the given one, or first if none is given
 abbrev pub with_mark : Option ℕ → ℕ → List ℕ → List ℕ
 with_mark None m ms = m ∷ ms
 with_mark (Some a) m ms = place_after a (m ∷ []) ms

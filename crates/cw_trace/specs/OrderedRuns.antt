@@ -1,6 +1,6 @@
--- Order through a run: that open nodes are ordered is kept by each step, and so is who may go on.
--- Open are the strands that have not finished, the pending blocks, and the forks that were not joined, those with columns until their traces
--- were merged or their unsplit halves were joined.
+-- Order through a run: each step keeps that open nodes are ordered, and who may go on.
+-- Open are strands that have not finished, pending blocks, and forks that have not been joined. A fork with columns counts as
+-- joined once its traces are merged or its unsplit strands are joined.
 use Rattle.std.specs.Prelude.{◌≡◌, ℕ, ◌+◌, ◌<◌, ◌≤◌, ◌%◌, ◌==◌, ◌&&◌, Bool, true, false, nat_lt, List, [], ◌∷◌, ◌++◌, length, slice_index, Option, Some, None, if◌then◌else◌}
 use Rattle.cw_tree.specs.declared.node.Node.{Node}
 use Rattle.cw_tree.specs.declared.node.Kind.TheVariants.{Strand, Block}
@@ -24,19 +24,19 @@ pub record Moment : Type 0 where
 abbrev pub GoesOnAt : Moment → ℕ → Type 0
 GoesOnAt s p = MayGoOn s.columns s.tree s.cuts s.is_open p
 
--- where nodes from n on were made, those that pass the test are open
+-- the open nodes after nodes from n on were made, of which those that pass `new` are open
 abbrev pub opens : ℕ → (ℕ → Bool) → (ℕ → Bool) → ℕ → Bool
 opens n new is_open m = if nat_lt m n then is_open m else new m
 
--- node q is open no more
+-- node q is no longer open
 abbrev pub shuts : ℕ → (ℕ → Bool) → ℕ → Bool
 shuts q is_open m = if m == q then false else is_open m
 
--- the open nodes after a fork, whose three nodes are open
+-- the open nodes after a fork: its three nodes are open
 abbrev pub fork_opens : Moment → ℕ → Bool
 fork_opens s = opens (length s.tree) (λ m. nat_lt m (length s.tree + 3)) s.is_open
 
--- a step of the strand that goes on at a place, or of no strand, and the moment after it
+-- one step, by the strand that goes on at a place or by no strand, and the moment after it
 pub data TierStep (s : Moment) : Option ℕ → Moment → Type 0 where
   -- an access, an output or a refused access
   leaf : (x : Node) → GoesOnAt s x.parent → is_strand_kind x.kind ≡ false → is_fork_kind x.kind ≡ false → (is_block_kind x.kind && is_pending_state x.state) ≡ false
@@ -48,15 +48,15 @@ pub data TierStep (s : Moment) : Option ℕ → Moment → Type 0 where
   inline : (p stamp : ℕ) → GoesOnAt s p → s.columns.room < used s.columns + 2 → TierStep s (Some p) (record s { tree = s.tree ++ fork_nodes (length s.tree) p stamp; is_open = fork_opens s })
   close : (q end : ℕ) (state : BlockState) → GoesOnAt s q → is_pending s.tree q ≡ true → is_pending_state state ≡ false → ((b : ℕ) → is_pending s.tree b ≡ true → stamp_of s.tree b ≡ stamp_of s.tree q → b ≡ q)
       → TierStep s (Some q) (record s { words = closed_word s.words (gap_at s.columns s.tree q) (stamp_of s.tree q); tree = closed s.tree q state end; is_open = shuts q s.is_open })
-  -- a strand finishes that is not the root
+  -- a strand other than the root finishes
   finish : (x : ℕ) → GoesOnAt s x → is_strand s.tree x ≡ true → 0 < x → TierStep s (Some x) (record s { is_open = shuts x s.is_open })
   split : (f : ℕ) → f < used s.columns → f % 2 ≡ 1 → is_trace s.columns f ≡ false → before_split s.columns f ≡ None → IsUnstarted s.tree s.joins f → TierStep s None (record s { columns = split_at f s.columns; cuts = f ∷ s.cuts })
   merge : (f : ℕ) → f < used s.columns → f % 2 ≡ 1 → is_trace s.columns f ≡ true → (done : IsDone s.tree s.is_open f) → TierStep s None (record s { columns = merged f s.columns; joins = f ∷ s.joins; is_open = shuts done.fork s.is_open })
-  -- the join of an unsplit fork, and of one without columns
+  -- an unsplit fork is joined, or one without columns
   join : (f : ℕ) → (may : MayJoinAt s.columns s.tree s.cuts s.joins s.is_open f) → TierStep s None (record s { joins = f ∷ s.joins; is_open = shuts may.done.fork s.is_open })
   join_inline : (f : ℕ) → is_fork s.tree f ≡ true → used s.columns < fork_column s.tree f + 2 → ((x : ℕ) → 0 < x → x < length s.tree → parent_of s.tree x ≡ f → s.is_open x ≡ false) → TierStep s None (record s { is_open = shuts f s.is_open })
 
--- a run of such steps from the root strand alone
+-- the moments that such steps can reach from the root strand alone
 pub data RunsInOrder : Moment → Type 0 where
   start : (room : ℕ) (words : List ℕ) → 0 < room → room ≤ length words → ((g : ℕ) → slice_index words g ≡ 0)
       → RunsInOrder (record { columns = first_tier room; words = words; tree = fresh_node 0 Strand 0 ∷ []; cuts = []; joins = []; is_open = λ m. m == 0 })
@@ -64,10 +64,10 @@ pub data RunsInOrder : Moment → Type 0 where
 
 -- ## Laws
 
--- at each moment of a run the tier stands for the tree, and the open nodes are ordered
+-- at each moment of a run the tier represents the tree, and the open nodes are ordered
 abbrev pub EachMomentStands : Type 0
 EachMomentStands = (s : Moment) → RunsInOrder s → StandsInOrder s.columns s.words s.tree s.cuts s.joins s.is_open
 
--- whoever may go on still may after a step of another strand or of none
+-- whoever may go on still may after a step by another strand or by none
 abbrev pub OthersGoOn : Type 0
 OthersGoOn = (s u : Moment) (who : Option ℕ) (p : ℕ) → RunsInOrder s → TierStep s who u → (who ≡ Some p → ⊥) → GoesOnAt s p → GoesOnAt u p

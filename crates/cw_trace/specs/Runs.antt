@@ -1,4 +1,5 @@
--- Whole runs of a tier: what comes of the start by forks, splits, merges, joins, leaves, begins and closes, each where it is allowed.
+-- Whole runs of a tier: what can be reached from the start by forks, splits, merges, joins, leaves, begins and closes, each where
+-- it is allowed.
 use Rattle.std.specs.Prelude.{◌≡◌, ℕ, ◌+◌, ◌<◌, ◌≤◌, ◌%◌, ◌&&◌, Bool, true, false, List, [], ◌∷◌, ◌++◌, length, slice_index, None}
 use Rattle.cw_tree.specs.declared.node.Node.{Node}
 use Rattle.cw_tree.specs.declared.node.Kind.TheVariants.{Strand, Block}
@@ -20,7 +21,7 @@ pub record Place (c : ColumnTable) (t : List Node) (cuts joins : List ℕ) (p : 
   pub goes : MayGoOn c t cuts is_open p
   pub stamps : (b : ℕ) → is_pending t b ≡ true → 0 < stamp_of t b
 
--- the columns, gap words, tree, and split and joined forks that a run comes to
+-- the columns, gap words, tree, split forks and joined forks that a run can reach
 pub data ReachedTier : ColumnTable → List ℕ → List Node → List ℕ → List ℕ → Type 0 where
   start : (room : ℕ) (words : List ℕ) → 0 < room → room ≤ length words → ((g : ℕ) → slice_index words g ≡ 0) → ReachedTier (first_tier room) words (fresh_node 0 Strand 0 ∷ []) [] []
   fork : (c : ColumnTable) (words : List ℕ) (t : List Node) (cuts joins : List ℕ) (p stamp : ℕ) → ReachedTier c words t cuts joins → Place c t cuts joins p → used c + 2 ≤ c.room
@@ -39,15 +40,15 @@ pub data ReachedTier : ColumnTable → List ℕ → List Node → List ℕ → L
   close : (c : ColumnTable) (words : List ℕ) (t : List Node) (cuts joins : List ℕ) (q end : ℕ) (state : BlockState) → ReachedTier c words t cuts joins → Place c t cuts joins q → is_pending t q ≡ true → is_pending_state state ≡ false
       → ((b : ℕ) → is_pending t b ≡ true → stamp_of t b ≡ stamp_of t q → b ≡ q) → ReachedTier c (closed_word words (gap c (column t (used c) q)) (stamp_of t q)) (closed t q state end) cuts joins
 
--- whatever a run comes to, the tier stands for the tree
+-- at the end of every run the tier represents the tree
 abbrev pub EachRunStands : Type 0
 EachRunStands = (c : ColumnTable) (words : List ℕ) (t : List Node) (cuts joins : List ℕ) → ReachedTier c words t cuts joins → Keeps c words t cuts joins
 
--- and each strand that may go on does so beneath each pending block begun in its trace
+-- and each strand that may go on does so beneath each pending block that was begun in its trace
 abbrev pub EachRunGoesOn : Type 0
 EachRunGoesOn = (c : ColumnTable) (words : List ℕ) (t : List Node) (cuts joins : List ℕ) (p : ℕ) → ReachedTier c words t cuts joins → Place c t cuts joins p → GoesOn c t (column t (used c) p) p
 
--- a pending block of a trace is above all that was done in the traces inside it
+-- a pending block of a trace is above all that was done in the traces inside that trace
 abbrev pub Suspended : Type 0
 Suspended =
     (c : ColumnTable) (words : List ℕ) (t : List Node) (cuts joins : List ℕ) → Keeps c words t cuts joins → IsTree t → (b n : ℕ) → n < length t → is_pending t b ≡ true → Descends c (owner c (column t (used c) b)) (owner c (column t (used c) n))

@@ -1,4 +1,4 @@
--- What is seen of a tier, and what its parts keep.
+-- What a caller sees of a tier, and what its parts keep.
 use Rattle.std.specs.Prelude.{◌≡◌, ℕ, ◌+◌, ◌*◌, ◌/◌, ◌%◌, ◌^◌, ◌<◌, ◌≤◌, true, List, length, filter, is_some, slice_index, vec_capacity, Option, Some}
 use Rattle.cw_tree.specs.Walks.{has}
 use Rattle.cw_trace.specs.declared.tier.Trace.{Trace}
@@ -24,16 +24,16 @@ traces_of a = record {
 abbrev pub trace_count : List (Option Trace) → ℕ
 trace_count ts = length (filter is_some ts)
 
--- what every call keeps, for any tree or none
+-- what every call keeps, whether or not the tier represents a tree
 pub record AreSound (c : ColumnTable) : Type 0 where
   pub odd : used c % 2 ≡ 1
   pub rooted : (i : ℕ) → 0 < i → i < used c → slice_index c.parents i < i
-  -- each column has the owner of a smaller one or its own, which is a trace
+  -- the owner of a column is not a greater column, and is a trace
   pub owner_low : (i : ℕ) → i < used c → owner c i ≤ i
   pub owned : (i : ℕ) → i < used c → is_trace c (owner c i) ≡ true
   pub pairs : (f : ℕ) → f % 2 ≡ 1 → f < used c → is_trace c (f + 1) ≡ is_trace c f
   pub outer_low : (i o : ℕ) → outer c i ≡ Some o → o < used c
-  -- the brackets are just those of the traces, each once
+  -- the brackets are exactly those of the traces, each once
   pub distinct : Distinct c.brackets
   pub count : length c.brackets ≡ 2 * trace_count c.traces
   pub there : (t : ℕ) → is_trace c t ≡ true → (has c.brackets (opening_mark t) ≡ true) × (has c.brackets (closing_mark t) ≡ true)

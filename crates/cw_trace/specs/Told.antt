@@ -1,4 +1,4 @@
--- What a query reads of a tier and gap words, and what it is answered.
+-- What a query reads of a tier and gap words, and the answers that it gets.
 use Rattle.std.specs.Prelude.{◌≡◌, ℕ, Bool, List, slice_index, Option}
 use Rattle.cw_trace.specs.Columns.{ColumnTable, owner, lead, up, inside}
 
@@ -11,7 +11,7 @@ pub data Read : Type 0 where
   Up : (trace : ℕ) → Read
   -- the word of a gap
   Word : (gap : ℕ) → Read
-  -- whether a trace stands within another
+  -- whether a trace lies inside another
   Inside : (trace outer : ℕ) → Read
 
 pub data Answer : Type 0 where
@@ -19,11 +19,11 @@ pub data Answer : Type 0 where
   Maybe : Option ℕ → Answer
   Test : Bool → Answer
 
--- what was told stays told
+-- what was told before is still told later
 abbrev pub Stays : (Read → Answer → Type 0) → (Read → Answer → Type 0) → Type 0
 Stays told later = (r : Read) (a : Answer) → told r a → later r a
 
--- what a tier and gap words hold: what names nothing reads as 0, None or false
+-- the answer that a tier and gap words hold for a read; a number that names nothing reads as 0, None or false
 abbrev pub held : ColumnTable → List ℕ → Read → Answer
 held c words (Owner i) = Number (owner c i)
 held c words (Lead t) = Maybe (lead c t)

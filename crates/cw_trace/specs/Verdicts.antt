@@ -1,4 +1,4 @@
--- What a verdict says of the tree, for the last access u and an asker that stands at place p.
+-- What a verdict says of the tree, for the last access u and an asker at place p.
 use Rattle.std.specs.Prelude.{◌≡◌, ℕ, ◌<◌, ◌&&◌, ◌↔◌, Bool, true, false, not, IsTrue, Some, None, List, length}
 use Rattle.cw_tree.specs.declared.node.Node.{Node}
 use Rattle.cw_tree.specs.declared.access.Mark.{Mark}
@@ -31,32 +31,32 @@ is_against _ = false
 pub record Tells (t : List Node) (u p : ℕ) (v : Verdict) : Type 0 where
   -- the access has no pending block above it
   pub free : IsTrue (is_free v) ↔ (nua t u ≡ None)
-  -- its nearest one is an ancestor of what the asker would do
+  -- the nearest one above it is an ancestor of what the asker would do
   pub within : IsTrue (is_within v) ↔ ((b : ℕ) × (nua t u ≡ Some b) × IsTrue (is_ancestor t b p))
-  -- there is one that is not
+  -- there is one above it that is not
   pub against : is_against v ≡ conflict_at t u p
-  -- and then a pending block above the access and not above the asker was begun at the stamp that is named
+  -- and then the named stamp is the begin of a pending block that is above the access and not above the asker
   pub begun : (w : ℕ) → v ≡ Against w → (b : ℕ) × IsTrue (is_pending t b && is_above t b u && not (is_ancestor t b p)) × (stamp_of t b ≡ w)
 
 -- the column and stamp of node n
 abbrev pub mark_of : ColumnTable → List Node → ℕ → Mark
 mark_of c t n = record { strand = column t (used c) n; stamp = stamp_of t n }
 
--- ## What verdict v says, for each tree that the tier stands for
+-- ## What verdict v says, for each tree that the tier represents
 
--- of each access of a cell that has the last mark, and each strand that may go on, whose column is the asker
+-- of each access of the cell that has the mark `last`, and each strand that may go on and has the column `asker`
 abbrev pub TellsOfTree : ColumnTable → List ℕ → Mark → ℕ → Verdict → Type 0
 TellsOfTree c words last asker v =
     (t : List Node) (cuts joins : List ℕ) (is_open : ℕ → Bool) (cell u p : ℕ) → Keeps c words t cuts joins → IsTree t → AreStamps t → IsOrdered c t cuts joins is_open → MayGoOn c t cuts is_open p
     → IsTrue (touches t cell u) → last ≡ mark_of c t u → asker ≡ column t (used c) p → Tells t u p v
 
--- the same from the reading alone, where the asker goes on beneath each pending block that was begun in its trace
+-- the same from the reading `Stands` alone, if the asker goes on beneath each pending block that was begun in its trace
 abbrev pub TellsByReading : ColumnTable → List ℕ → Mark → ℕ → Verdict → Type 0
 TellsByReading c words last asker v =
     (t : List Node) (cuts joins : List ℕ) (cell u p : ℕ) → Stands c words t cuts joins → IsTree t → AreStamps t → p < length t → GoesOn c t (column t (used c) p) p
     → IsTrue (touches t cell u) → last ≡ mark_of c t u → asker ≡ column t (used c) p → Tells t u p v
 
--- whether the pending block that has the first mark is above the access that has the last mark
+-- whether the pending block with the mark `block` is above the access with the mark `last`
 abbrev pub TellsOfBlock : ColumnTable → List ℕ → Mark → Mark → Bool → Type 0
 TellsOfBlock c words block last x =
     (t : List Node) (cuts joins : List ℕ) (cell u b : ℕ) → Stands c words t cuts joins → IsTree t → AreStamps t
@@ -64,14 +64,14 @@ TellsOfBlock c words block last x =
 
 -- ## Laws
 
--- one stamp and at most two gap words decide
+-- one stamp and at most two gap words decide the verdict
 abbrev pub Decides : Type 0
 Decides = (c : ColumnTable) (words : List ℕ) (last : Mark) (asker : ℕ) → TellsOfTree c words last asker (verdict c words last asker)
 
 abbrev pub DecidesByReading : Type 0
 DecidesByReading = (c : ColumnTable) (words : List ℕ) (last : Mark) (asker : ℕ) → TellsByReading c words last asker (verdict c words last asker)
 
--- after whatever run, of each access and each strand that may go on
+-- after every run, of each access and each strand that may go on
 abbrev pub DecidesInRuns : Type 0
 DecidesInRuns =
     (c : ColumnTable) (words : List ℕ) (t : List Node) (cuts joins : List ℕ) (cell u p : ℕ) → ReachedTier c words t cuts joins → AreStamps t → Place c t cuts joins p → IsTrue (touches t cell u)
@@ -81,7 +81,7 @@ DecidesInRuns =
 abbrev pub CoversBlocks : Type 0
 CoversBlocks = (c : ColumnTable) (words : List ℕ) (block last : Mark) → TellsOfBlock c words block last (covers c block last)
 
--- so the victim is the outermost pending block above the asker's place for which they tell that it is not
+-- so the victim is the outermost pending block above the asker's place of which the columns tell that it is not above the access
 abbrev pub FindsVictims : Type 0
 FindsVictims =
     (c : ColumnTable) (words : List ℕ) (t : List Node) (cuts joins : List ℕ) (cell u p : ℕ) → Stands c words t cuts joins → IsTree t → AreStamps t → IsTrue (touches t cell u)

@@ -1,4 +1,4 @@
--- A small run of a tier in which two strands go on, and what the definitions say of its states.
+-- A computed example: a small run of a tier in which two strands go on, and what the definitions say of its states.
 use Rattle.std.specs.Prelude.{◌≡◌, ℕ, ◌==◌, ◌||◌, Bool, true, false, nat_lt, IsTrue, List, [], ◌∷◌, ◌++◌, Some, pos}
 use Rattle.cw_tree.specs.declared.node.Node.{Node}
 use Rattle.cw_tree.specs.declared.node.Kind.TheVariants.{Strand, Fork, Write}
@@ -13,7 +13,7 @@ use Rattle.cw_trace.specs.Verdicts.{mark_of}
 use Rattle.cw_trace.specs.OrderedRuns.{Moment, GoesOnAt, shuts, fork_opens, RunsInOrder}
 use Rattle.cw_trace.specs.Hands.{StandsInOrder, trace_at, gap_at, IsInnermost, InnermostDiffer, IsLater, loads_second, verdict_between}
 
--- all nodes are open that are numbered below n
+-- the open nodes are those numbered below n
 abbrev pub open_below : ℕ → ℕ → Bool
 open_below n m = nat_lt m n
 
@@ -28,7 +28,7 @@ one_fork = plain 0 Strand 0 ∷ plain 0 Fork 1 ∷ plain 1 Strand 0 ∷ plain 1 
 abbrev pub forked_once : ColumnTable
 forked_once = forked 0 0 (first_tier 5)
 
--- the fork is not split: its right strand stands at itself as a strand does that may go on, in the trace and at the gap of the left one
+-- The fork is not split. Its right strand is innermost too, but in the trace and at the gap of the left one.
 pub record Unready : Type 0 where
   pub stands : StandsInOrder forked_once no_words one_fork [] [] (open_below 4)
   pub left : MayGoOn forked_once one_fork [] (open_below 4) 2
@@ -50,7 +50,7 @@ pub record TwoHands : Type 0 where
   pub traces : (trace_at stolen_once one_fork 2 ≡ 1) × (trace_at stolen_once one_fork 3 ≡ 2)
   pub gaps : (gap_at stolen_once one_fork 2 ≡ 0) × (gap_at stolen_once one_fork 3 ≡ 2)
 
--- ## Both strands finish there, and the traces are merged
+-- ## Both strands finish then, and the traces are merged
 
 abbrev pub main_alone : Moment
 main_alone = record { columns = first_tier 5; words = no_words; tree = plain 0 Strand 0 ∷ []; cuts = []; joins = []; is_open = λ m. m == 0 }
@@ -61,14 +61,15 @@ both_finished = record { columns = stolen_once; words = no_words; tree = one_for
 abbrev pub put_together : Moment
 put_together = record { columns = merged 1 stolen_once; words = no_words; tree = one_fork; cuts = 1 ∷ []; joins = 1 ∷ []; is_open = shuts 1 (shuts 3 (shuts 2 (fork_opens main_alone))) }
 
--- main may go on only once the traces were merged
+-- main may go on only after the merge
 pub record MainWaits : Type 0 where
   pub finished : RunsInOrder both_finished
   pub waits : GoesOnAt both_finished 0 → ⊥
   pub merged : RunsInOrder put_together
   pub goes_on : GoesOnAt put_together 0
 
--- ## The left strand begins a block and forks there, and that fork's right strand is stolen; its left one accesses a cell, and begins a block
+-- ## The left strand begins a block and forks there. The right strand of that fork is stolen. Its left strand accesses a cell and
+-- begins a block
 
 abbrev pub in_block : List Node
 in_block = one_fork ++ pending 2 2 ∷ []
@@ -95,7 +96,7 @@ since_then = 2 ∷ 0 ∷ 0 ∷ 6 ∷ 0 ∷ []
 abbrev pub open_since : ℕ → Bool
 open_since m = open_below 8 m || (m == 9)
 
--- the strand that was stolen first asks about that access: its first word is loaded at the access, the second after the begin
+-- The strand that was stolen first asks about that access. It loads its first word at the access, and the second after the begin.
 pub record TwoLoads : Type 0 where
   pub first : StandsInOrder stolen_twice at_access accessed (3 ∷ 1 ∷ []) [] (open_below 8)
   pub second : StandsInOrder stolen_twice since_then begun_since (3 ∷ 1 ∷ []) [] open_since
@@ -107,13 +108,13 @@ pub record TwoLoads : Type 0 where
   pub loads : loads_second stolen_twice at_access (mark_of stolen_twice begun_since 8) 2 ≡ true
   pub verdict : verdict_between stolen_twice at_access since_then (mark_of stolen_twice begun_since 8) 2 ≡ Against 2
 
--- that strand draws 5 for the begin of a block, and the other one begins its block at 6
+-- that strand draws 5 for the begin of a block, and the accessing strand begins its block at 6
 pub record DrawnEarly : Type 0 where
   pub drawn : IsLater stolen_twice accessed 3 5
   pub still : IsLater stolen_twice begun_since 3 5
-  -- which is not said of the trace in which the other one stands
+  -- but 5 is not later than all stamps of the accessing strand's trace
   pub not_there : IsLater stolen_twice begun_since 6 5 → ⊥
-  -- or both strands of the second fork finish, and its traces are merged
+  -- otherwise both strands of the second fork finish, and its traces are merged
   pub finished : StandsInOrder stolen_twice at_access accessed (3 ∷ 1 ∷ []) [] (open_below 6)
   pub goes_on : MayGoOn stolen_twice accessed (3 ∷ 1 ∷ []) (open_below 6) 3
   pub done : IsDone accessed (open_below 6) 3

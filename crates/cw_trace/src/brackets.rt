@@ -10,7 +10,7 @@ use std::alloc::Global;
 use std::marker::Model;
 use std::sync::ledger::Ledger;
 
-/// Puts zeros behind a list that has room for them, until it has the place.
+/// Appends zeros to `list` until it has position `place`. The list has capacity for them.
 fn reach(list: &mut Vec<u32>, place: u32)
     requires { place < vec_capacity list.old }
     ensures there { place < vec_len list.new }
@@ -24,7 +24,7 @@ fn reach(list: &mut Vec<u32>, place: u32)
     }
 }
 
-/// Marks in an order list. Of both tables only what was once in use is touched.
+/// Marks in an order list. Only entries of the two tables that were once in use are touched.
 #[derive(Drop)]
 pub(crate) struct Brackets {
     order: OrderList,
@@ -45,7 +45,7 @@ impl Model for Brackets {
 }
 
 impl Brackets {
-    /// No marks yet, and room for those below `room`. No later call takes memory.
+    /// Returns an empty list of brackets, with room for the marks below `room`. No later call allocates.
     pub(crate) fn with_room(alloc: Global, room: u32) -> Result<Brackets, OutOfMemory>
         ensures none { IfOk result (λ b. b.marks ≡ []) }
         ensures room { IfOk result (λ b. b.room ≡ room) }
@@ -57,7 +57,7 @@ impl Brackets {
         })
     }
 
-    /// Puts a new mark right after another, or first where none is given.
+    /// Inserts `mark`, a new mark, right after `at`, or first if `at` is `None`.
     pub(crate) fn insert(&mut self, at: Option<u32>, mark: u32)
         requires at { ForSome at (λ a. has self.old.marks a ≡ true) }
         requires new { has self.old.marks mark ≡ false }
@@ -80,7 +80,7 @@ impl Brackets {
         }
     }
 
-    /// Takes a mark out.
+    /// Removes `mark`.
     pub(crate) fn remove(&mut self, mark: u32)
         requires { has self.old.marks mark ≡ true }
         ensures marks { self.new.marks ≡ filter (λ m. not (m == mark)) self.old.marks }
@@ -89,7 +89,7 @@ impl Brackets {
         self.order.remove(self.elements[mark as usize]);
     }
 
-    /// Whether the mark `a` stands before `b`.
+    /// Returns whether the mark `a` comes before `b`.
     pub(crate) fn before<L: Ledger>(&self, a: u32, b: u32, steps: &mut Steps<L>) -> bool
         requires first { has self.now.marks a ≡ true }
         requires second { has self.now.marks b ≡ true }
@@ -99,7 +99,8 @@ impl Brackets {
         self.order.before(self.elements[a as usize], self.elements[b as usize], steps)
     }
 
-    /// Puts the brackets of both traces of a split fork right after a trace's opening one: those of the left one, then those of the right one.
+    /// Inserts the brackets of both traces of a split fork right after the opening mark of `trace`: first those of the left trace,
+    /// then those of the right one.
     pub(crate) fn open_both(&mut self, trace: u32, fork: u32)
         requires around { has self.old.marks (opening_mark trace) ≡ true }
         requires new_left { (has self.old.marks (opening_mark fork) ≡ false)
@@ -120,7 +121,7 @@ impl Brackets {
         self.insert(Some(left + 2), left + 3);
     }
 
-    /// Takes out the brackets of both traces of a split fork.
+    /// Removes the brackets of both traces of a split fork.
     pub(crate) fn close_both(&mut self, fork: u32)
         requires left { (has self.old.marks (opening_mark fork) ≡ true)
             × (has self.old.marks (closing_mark fork) ≡ true) }

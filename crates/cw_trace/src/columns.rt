@@ -4,16 +4,16 @@ ghost use Rattle.cw_trace.specs.Told.{Read, Answer, Owner, Lead, Up, Word, Insid
 use cw_order::Steps;
 use std::sync::ledger::Ledger;
 
-/// How a query reads a tier and gap words, wherever they are kept. What was told stays told, but a read may have several answers. A look
-/// is a read of one number; what names nothing reads as 0, `None` or false.
+/// What a query reads: a tier and gap words, wherever they are kept. An answer stays told, but one read may get several answers. A
+/// look is a read of one number. A number that names nothing reads as 0, `None` or false.
 pub trait Columns {
-    /// This was answered to this read.
+    /// The read was given this answer.
     ghost told: { Self → Read → Answer → Type 0 };
 
-    /// It can be asked, which no number that is asked for has to do with.
+    /// The columns can be asked. That does not depend on the numbers that are asked for.
     ghost ready: { Self → Type 0 };
 
-    /// The trace of a strand.
+    /// Returns the trace of `strand`.
     fn owner<K: Ledger>(&mut self, strand: u32, looks: &mut Steps<K>) -> u32
         requires { ready self.old }
         ensures ready { ready self.new }
@@ -21,7 +21,7 @@ pub trait Columns {
         ensures kept { Stays (told self.old) (told self.new) }
         ensures looks { looks.new ≡ looks.old + 1 };
 
-    /// The gap that leads to a trace's outermost pending block.
+    /// Returns the gap that leads to the outermost pending block of `trace`.
     fn lead<K: Ledger>(&mut self, trace: u32, looks: &mut Steps<K>) -> Option<u32>
         requires { ready self.old }
         ensures ready { ready self.new }
@@ -29,7 +29,7 @@ pub trait Columns {
         ensures kept { Stays (told self.old) (told self.new) }
         ensures looks { looks.new ≡ looks.old + 1 };
 
-    /// The nearest trace around a trace that has a pending block.
+    /// Returns the nearest trace around `trace` that has a pending block.
     fn up<K: Ledger>(&mut self, trace: u32, looks: &mut Steps<K>) -> Option<u32>
         requires { ready self.old }
         ensures ready { ready self.new }
@@ -37,7 +37,7 @@ pub trait Columns {
         ensures kept { Stays (told self.old) (told self.new) }
         ensures looks { looks.new ≡ looks.old + 1 };
 
-    /// The word of a gap.
+    /// Returns the word of `gap`.
     fn word<K: Ledger>(&mut self, gap: u32, looks: &mut Steps<K>) -> u64
         requires { ready self.old }
         ensures ready { ready self.new }
@@ -45,7 +45,7 @@ pub trait Columns {
         ensures kept { Stays (told self.old) (told self.new) }
         ensures looks { looks.new ≡ looks.old + 1 };
 
-    /// Whether a trace stands within another.
+    /// Returns whether `trace` lies inside `outer`.
     fn inside<K: Ledger, L: Ledger>(
         &mut self,
         trace: u32,

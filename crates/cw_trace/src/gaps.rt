@@ -6,14 +6,14 @@ use std::alloc::Global;
 use std::marker::Model;
 use std::sync::ledger::Ledger;
 
-/// A word for each strand column's gap: the begin stamp of the outermost pending block that was begun in it, or 0.
+/// One word for the gap of each strand's column: the begin stamp of the outermost pending block that was begun in the gap, or 0.
 #[derive(Drop)]
 pub struct Gaps {
     pub words: Vec<u64>,
 }
 
 impl Gaps {
-    /// The words of the gaps of `m` strands, each 0.
+    /// Returns the gap words of `m` strands, each 0.
     pub fn with_strands(alloc: Global, m: u32) -> Result<Gaps, OutOfMemory>
         ensures { IfOk result (λ g. g.words.items ≡ replicate m 0) }
     {
@@ -22,7 +22,7 @@ impl Gaps {
         })
     }
 
-    /// Sets one word. Takes no memory.
+    /// Sets the word of `gap`. Does not allocate.
     pub fn set(&mut self, gap: u32, word: u64)
         requires { gap < vec_len self.old.words }
         ensures { self.new.words.items ≡ slice_set self.old.words.items gap word }
@@ -30,7 +30,7 @@ impl Gaps {
         self.words[gap as usize] = word;
     }
 
-    /// What a query sees of it.
+    /// Returns what a query sees of the gap words.
     pub fn reader(&self) -> GapReader<'_>
         ensures { result ≡ self.now.words.items }
     {
@@ -38,7 +38,7 @@ impl Gaps {
     }
 }
 
-/// Gap words as a query sees them: by a read of any number, with its tick. What names nothing reads as 0.
+/// Gap words as a query sees them: any number may be read, with a tick for each read. A number that names nothing reads as 0.
 #[derive(Drop)]
 pub struct GapReader<'a> {
     gaps: &'a Gaps,
@@ -53,7 +53,7 @@ impl<'a> Model for GapReader<'a> {
 }
 
 impl<'a> GapReader<'a> {
-    /// The word of a gap.
+    /// Returns the word of `gap`.
     pub fn word_of<L: Ledger>(&self, gap: u32, looks: &mut Steps<L>) -> u64
         ensures value { result ≡ slice_index self.now gap }
         ensures cost { looks.new ≡ looks.old + 1 }

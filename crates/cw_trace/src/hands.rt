@@ -9,28 +9,31 @@ ghost use Rattle.cw_trace.specs.Worked.{Unready, TwoHands, TwoLoads, DrawnEarly,
 
 use crate::Columns;
 
-/// Strands that may go on at two places are in different traces and use different gaps: so neither changes the word of the other one's gap,
-/// nor makes a node in its trace.
+/// Law: strands that may go on at two places are in different traces and use different gaps. So neither changes the word of the
+/// other's gap, nor makes a node in the other's trace.
 pub fn hands_differ()
     ensures differ { HandsDiffer }
     ensures words { WordsStay }
     ensures nodes { NodesApart }
 {}
 
-/// A query whose two words are loaded at different moments, between which others begin and close blocks, answers right for its last load.
+/// Law: a query may load its two words at different moments, between which other strands begin and close blocks. Its verdict is
+/// right at its last load.
 pub fn loads_decide()
     ensures one_word { OneWordDecides }
     ensures last_load { LastLoadDecides }
     ensures no_load { NoLoadDecides }
 {}
 
-/// A query that is told of a tier and gap words at whatever moments, while the columns stand, answers right of the tree at one of them.
+/// Law: a query may be told of a tier and gap words at any moments, while the columns do not change. Its verdict is right of the
+/// tree at one of them.
 pub fn told_of_moments<C: Columns>(_asked: &C)
     ensures { (c : columns.ColumnTable) (words : ℕ → List ℕ) (last : Mark) (asker : ℕ) (v : Verdict)
         → IsToldOf c words (C.told _asked.now) → Gives (C.told _asked.now) last asker v → IsRightOnce c words last asker v }
 {}
 
-/// A number that was drawn early, and is above all stamps of its strand's trace, stays so until the strand uses it, whatever others do.
+/// Law: if a number was drawn early and no stamp of its strand's trace is above it, that stays so until the strand uses it,
+/// whatever other strands do.
 pub fn later_stays()
     ensures node { LaterWithNode }
     ensures fork { LaterWithFork }
@@ -40,16 +43,17 @@ pub fn later_stays()
     ensures merged { LaterMerged }
 {}
 
-/// At each moment of a run of tier and tree, whose steps need to know only who may go on, the tier stands for the tree and the open nodes are
-/// ordered; and whoever may go on still may after a step of another. In a small run main waits for the merge of its fork.
+/// Law: at each moment of a run of tier and tree, the tier represents the tree and the open nodes are ordered. The steps need to
+/// know only who may go on, and whoever may go on still may after a step of another strand. In a small run, main waits for the
+/// merge of its fork.
 pub fn order_is_kept()
     ensures stands { EachMomentStands }
     ensures others { OthersGoOn }
     ensures row { MainWaits }
 {}
 
-/// What the definitions say of a small run in which two strands go on, and that the right strand of a fork that is not split would be in the
-/// trace of the left one and use its gap.
+/// Computed example: what the definitions say of a small run in which two strands go on. If a fork is not split, its right strand
+/// would be in the trace of the left one and use its gap.
 pub fn worked_hands()
     ensures unready { Unready }
     ensures hands { TwoHands }

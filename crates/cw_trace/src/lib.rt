@@ -1,11 +1,10 @@
-//! Traces: which strands of a fork-join program make a trace, the gaps that lead to their pending blocks, and how a trace is cut at a stolen
-//! fork and put together again.
-//! Stands on `cw_base`, `cw_order` and `cw_tree`.
-//! Contracts cite `specs/Columns.antt` (the columns of a tier, and what a fork, a split and a merge make of them), `specs/Traces.antt` (what is
-//! seen of a tier) and `specs/Laws.antt` (what the calls keep): there `specs/Keeps.antt` with `specs/Segments.antt` and `specs/Stands.antt` says
-//! when a tier and gap words stand for a computation tree, and `specs/Running.antt` which of its nodes are
-//! open; `specs/Outward.antt` says which fork bars a split, and `specs/Runs.antt` what whole runs come to; `specs/Hands.antt` what steps of
-//! others leave of a trace, and `specs/OrderedRuns.antt` which order a whole run keeps.
+//! Traces: which strands of a fork-join program make a trace, and the gaps that lead to the pending blocks of a trace. A `Tier`
+//! holds all traces. It cuts a trace at a stolen fork and puts the parts together again.
+//! Use it with `cw_xconf` to tell from a few words whether an access conflicts.
+//! Contracts cite `specs/Columns.antt` (what calls make of the columns), `specs/Traces.antt` (what a caller sees) and
+//! `specs/Laws.antt` (what calls keep). `Keeps`, `Segments` and `Stands` say when a tier represents a tree, `Running` which of its
+//! nodes are open, `Outward` which fork bars a split. `Runs` and `OrderedRuns` are about whole runs, `Hands` about the steps of
+//! other strands.
 #![tactic(auto)]
 
 ghost use Rattle.cw_trace.specs.Laws.{Reading, RootStands, Leaf, Begin, Close, Join, GoesOnBeneath};
@@ -31,7 +30,7 @@ pub use queries::query_laws;
 pub use tier::{Early, Inline, Tier, TierReader, Trace};
 pub use verdict::Verdict;
 
-/// What a tier that stands for a tree tells of it, and what else keeps it.
+/// Laws: what a tier that represents a tree tells of the tree, and which steps besides the calls keep it so.
 pub fn tier_laws()
     ensures reading { Reading }
     ensures goes_on { GoesOnBeneath }
@@ -43,7 +42,7 @@ pub fn tier_laws()
     ensures suspended { Suspended }
 {}
 
-/// Whatever a run comes to, each of its events being allowed where it is made, the tier stands for the tree.
+/// Law: if each event of a run is allowed where it is made, the tier represents the tree.
 pub fn tier_runs()
     ensures stands { EachRunStands }
     ensures goes_on { EachRunGoesOn }

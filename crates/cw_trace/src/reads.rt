@@ -1,4 +1,4 @@
-//! What is made of a reader's calls. Nothing here sees a column.
+//! Reads that are made of a reader's calls. No code here sees a column.
 ghost use Rattle.std.specs.Prelude.{◌≡◌, ◌+◌, ◌≤◌, ◌<◌};
 ghost use Rattle.cw_trace.specs.Columns as columns;
 
@@ -7,7 +7,7 @@ use cw_order::Steps;
 use std::sync::ledger::Ledger;
 
 impl<'a> TierReader<'a> {
-    /// The gap that leads to a trace's outermost pending block.
+    /// Returns the gap that leads to the outermost pending block of `trace`.
     pub fn lead_of<L: Ledger>(&self, trace: u32, looks: &mut Steps<L>) -> Option<u32>
         ensures value { result ≡ columns.lead self.now.columns trace }
         ensures cost { looks.new ≡ looks.old + 1 }
@@ -18,7 +18,7 @@ impl<'a> TierReader<'a> {
         }
     }
 
-    /// The nearest trace around it that has a pending block.
+    /// Returns the nearest trace around `trace` that has a pending block.
     pub fn up_of<L: Ledger>(&self, trace: u32, looks: &mut Steps<L>) -> Option<u32>
         ensures value { result ≡ columns.up self.now.columns trace }
         ensures cost { looks.new ≡ looks.old + 1 }
@@ -29,7 +29,7 @@ impl<'a> TierReader<'a> {
         }
     }
 
-    /// Whether a trace stands within another.
+    /// Returns whether `trace` lies inside `outer`.
     pub fn stands_within<K: Ledger, L: Ledger>(
         &self,
         trace: u32,
@@ -50,7 +50,7 @@ impl<'a> TierReader<'a> {
 }
 
 impl Tier {
-    /// The trace of a strand.
+    /// Returns the trace of `strand`.
     pub fn owner<L: Ledger>(&self, strand: u32, steps: &mut Steps<L>) -> u32
         requires { strand < columns.used self.now.columns }
         ensures value { result ≡ columns.owner self.now.columns strand }
@@ -59,7 +59,7 @@ impl Tier {
         self.reader().owner_of(strand, steps)
     }
 
-    /// The gap that leads to a trace's outermost pending block.
+    /// Returns the gap that leads to the outermost pending block of `trace`.
     pub fn lead<L: Ledger>(&self, trace: u32, steps: &mut Steps<L>) -> Option<u32>
         requires { trace < columns.used self.now.columns }
         ensures value { result ≡ columns.lead self.now.columns trace }
@@ -68,7 +68,7 @@ impl Tier {
         self.reader().lead_of(trace, steps)
     }
 
-    /// The nearest trace around it that has a pending block.
+    /// Returns the nearest trace around `trace` that has a pending block.
     pub fn up<L: Ledger>(&self, trace: u32, steps: &mut Steps<L>) -> Option<u32>
         requires { trace < columns.used self.now.columns }
         ensures value { result ≡ columns.up self.now.columns trace }

@@ -11,7 +11,7 @@ use std::alloc::Global;
 use std::marker::Model;
 use std::sync::ledger::Ledger;
 
-/// What is kept for a trace: the gap at its head, its lead, and the nearest trace around it that has a pending block.
+/// The row of a trace: the gap at its head, its lead, and the nearest trace around it that has a pending block.
 #[derive(Clone, Copy, Drop, Debug)]
 pub struct Trace {
     pub head: u32,
@@ -19,11 +19,11 @@ pub struct Trace {
     pub up: Option<u32>,
 }
 
-/// There are no two unused columns.
+/// The fork gets no columns, because fewer than two are left.
 #[derive(Clone, Copy, Debug)]
 pub struct Inline;
 
-/// Another fork of the trace is to be split before.
+/// The fork `before`, of the same trace, has to be split first.
 #[derive(Clone, Copy, Debug)]
 pub struct Early {
     pub before: u32,
@@ -53,7 +53,7 @@ impl Model for Tier {
     ghost invariant = { IsTierInMemory };
 }
 
-/// Two more of the same.
+/// Appends `item` twice.
 fn put_pair<T: Copy>(list: &mut Vec<T>, item: T)
     requires { vec_len list.old + 2 ≤ vec_capacity list.old }
     ensures items { list.new.items ≡ list.old.items ++ item ∷ item ∷ [] }
@@ -63,7 +63,7 @@ fn put_pair<T: Copy>(list: &mut Vec<T>, item: T)
     put(list, item);
 }
 
-/// The owner of one strand after a split.
+/// Returns the owner of column `i` after a split, if it was `owner` before.
 fn part_of(i: usize, owner: u32, trace: u32, fork: u32) -> u32
     requires { fork + 1 < 2 ^ 32 }
     ensures { result ≡ columns.part_of trace fork i owner }
@@ -77,7 +77,7 @@ fn part_of(i: usize, owner: u32, trace: u32, fork: u32) -> u32
     }
 }
 
-/// The strands of a trace from a fork on become those of the left trace, but the right strand, which gets its own.
+/// Moves the strands of `trace` from column `fork` on to the left trace, except the right strand, which gets a trace of its own.
 /// Smaller columns never change.
 #[tactic(auto, using(crate::proofs::Marks::Edits::parts_more, crate::proofs::Marks::Edits::parts_done))]
 fn part(owners: &mut [u32], trace: u32, fork: u32)
@@ -91,7 +91,7 @@ fn part(owners: &mut [u32], trace: u32, fork: u32)
     }
 }
 
-/// The owner of one strand after a merge.
+/// Returns the owner of a column after a merge, if it was `owner` before.
 fn back_to(owner: u32, trace: u32, fork: u32) -> u32
     requires { fork + 1 < 2 ^ 32 }
     ensures { result ≡ columns.back_to trace fork owner }
@@ -103,7 +103,7 @@ fn back_to(owner: u32, trace: u32, fork: u32) -> u32
     }
 }
 
-/// The strands of both traces of a split fork go back to a trace. Smaller columns never change.
+/// Moves the strands of both traces of a split fork back to `trace`. Smaller columns never change.
 #[tactic(auto, using(crate::proofs::Marks::Edits::back_more))]
 fn put_back(owners: &mut [u32], trace: u32, fork: u32)
     requires fork { fork + 1 < 2 ^ 32 }
@@ -117,7 +117,7 @@ fn put_back(owners: &mut [u32], trace: u32, fork: u32)
     }
 }
 
-/// What is left of a trace's lead where a gap goes to a part that is cut off.
+/// Returns what is left of a trace's lead if `gap` goes to a part that is cut off.
 fn kept_lead(lead: Option<u32>, gap: u32) -> Option<u32>
     ensures { result ≡ columns.kept_lead lead gap }
 {
@@ -127,7 +127,7 @@ fn kept_lead(lead: Option<u32>, gap: u32) -> Option<u32>
     }
 }
 
-/// What stands around a new trace: the trace that was cut, where it has a lead.
+/// Returns the `up` of a new trace: the trace that was cut if it has a lead, otherwise that trace's own `up`.
 fn around_new(lead: Option<u32>, trace: u32, up: Option<u32>) -> Option<u32>
     ensures { result ≡ columns.or_else lead trace up }
 {
@@ -137,7 +137,7 @@ fn around_new(lead: Option<u32>, trace: u32, up: Option<u32>) -> Option<u32>
     }
 }
 
-/// What is kept for a trace.
+/// Returns the row of `trace`. A column that names no trace has a row of 0 and `None`.
 fn row_of(traces: &[Option<Trace>], trace: u32) -> Trace
     requires { trace < length traces.now }
     ensures { result ≡ columns.row_in (slice_get traces.now trace) }
@@ -156,11 +156,11 @@ impl Tier {
     ghost use Rattle.cw_trace.specs.Laws.{ForkKeeps, SplitKeeps, MergeKeeps};
     ghost use Rattle.cw_trace.specs.Outward.{NoneBars, NextBars};
 
-    /// Room for the columns of `m` strands, of which column 0 is the root's. No later call takes memory.
+    /// Returns a tier with room for the columns of `m` strands. Column 0 is the root's. No later call allocates.
     pub fn with_strands(alloc: Global, m: u32) -> Result<Tier, OutOfMemory>
         requires { 0 < m }
         ensures first { IfOk result (λ t. t.columns ≡ columns.first_tier m) }
-        // the brackets of more have no numbers of 32 bits
+        // the brackets of more columns have no numbers of 32 bits
         ensures large { 2 ^ 31 ≤ m → IsErr result }
     {
         if m >= 1 << 31 {
@@ -195,14 +195,14 @@ impl Tier {
         })
     }
 
-    /// The number of columns in use.
+    /// Returns how many columns are in use.
     pub fn used(&self) -> u32
         ensures { result ≡ columns.used self.now.columns }
     {
         self.owners.len() as u32
     }
 
-    /// The gap in use by a strand.
+    /// Returns the gap that a strand uses.
     pub fn gap(&self, strand: u32) -> u32
         requires { strand < columns.used self.now.columns }
         ensures { result ≡ columns.gap self.now.columns strand }
@@ -210,7 +210,7 @@ impl Tier {
         self.gaps[strand as usize]
     }
 
-    /// Whether a trace stands within another.
+    /// Returns whether `trace` lies inside `outer`.
     pub fn inside<L: Ledger>(&self, trace: u32, outer: u32, steps: &mut Steps<L>) -> bool
         requires inner { columns.is_trace self.now.columns trace ≡ true }
         requires outer { columns.is_trace self.now.columns outer ≡ true }
@@ -222,7 +222,7 @@ impl Tier {
         after && within
     }
 
-    /// Whether a column names a trace: it is the root's, or its fork is split and not merged.
+    /// Returns whether a column names a trace: it is the root's, or its fork is split and not merged.
     pub fn is_trace(&self, strand: u32) -> bool
         requires { strand < columns.used self.now.columns }
         ensures { result ≡ columns.is_trace self.now.columns strand }
@@ -230,7 +230,7 @@ impl Tier {
         self.traces[strand as usize].is_some()
     }
 
-    /// The fork outward of a fork that the strand of a column makes.
+    /// Returns the fork outward of a fork that the strand of column `parent` makes.
     fn outer_at(&self, parent: u32) -> Option<u32>
         requires { parent < columns.used self.now.columns }
         ensures { result ≡ columns.outer_at self.now.columns parent }
@@ -244,7 +244,7 @@ impl Tier {
         }
     }
 
-    /// The fork that has to be split before another one.
+    /// Returns the fork that has to be split before `fork`, if there is one.
     fn before_split(&self, fork: u32) -> Option<u32>
         requires { fork < columns.used self.now.columns }
         ensures { result ≡ columns.before_split self.now.columns fork }
@@ -261,8 +261,9 @@ impl Tier {
         }
     }
 
-    /// The columns of the left and right strands of a fork. The word is that of the forking strand's gap.
-    /// What stood for a tree stands for it with the fork, inline or not.
+    /// Gives columns to the left and right strands of a fork that the strand of column `parent` makes, and returns them. `word` is
+    /// the word of that strand's gap. A tier that represented a tree now represents the tree with the fork, whether it is inline or
+    /// not.
     pub fn fork(&mut self, word: u64, parent: u32) -> Result<(u32, u32), Inline>
         requires { parent < columns.used self.old.columns }
         ensures strands { IfOk result
@@ -277,7 +278,7 @@ impl Tier {
         self.fork_columns(word, parent)
     }
 
-    /// Cuts the trace of a fork there, or names the fork that is to be split before.
+    /// Cuts the trace of `fork` at the fork, or names the fork that has to be split first.
     pub fn split(&mut self, fork: u32) -> Result<(), Early>
         requires low { fork < columns.used self.old.columns }
         requires left { fork % 2 ≡ 1 }
@@ -294,7 +295,7 @@ impl Tier {
         self.split_columns(fork)
     }
 
-    /// Both traces of a split fork go back to the trace that it was cut from.
+    /// Puts both traces of a split fork back into the trace that they were cut from.
     pub fn merge(&mut self, fork: u32)
         requires low { fork < columns.used self.old.columns }
         requires left { fork % 2 ≡ 1 }
@@ -305,7 +306,7 @@ impl Tier {
         self.merge_columns(fork);
     }
 
-    /// Two more columns, where there are two.
+    /// Adds two columns, if there are two. `fork` adds the clause on trees.
     fn fork_columns(&mut self, word: u64, parent: u32) -> Result<(u32, u32), Inline>
         requires { parent < columns.used self.old.columns }
         ensures strands { IfOk result
@@ -336,7 +337,7 @@ impl Tier {
         Ok((left, left + 1))
     }
 
-    /// The columns and brackets of a split.
+    /// Changes columns and brackets for a split. `split` adds the clauses on trees.
     fn split_columns(&mut self, fork: u32) -> Result<(), Early>
         requires low { fork < columns.used self.old.columns }
         requires left { fork % 2 ≡ 1 }
@@ -376,7 +377,7 @@ impl Tier {
         Ok(())
     }
 
-    /// The columns and brackets of a merge.
+    /// Changes columns and brackets for a merge. `merge` adds the clause on trees.
     fn merge_columns(&mut self, fork: u32)
         requires low { fork < columns.used self.old.columns }
         requires left { fork % 2 ≡ 1 }

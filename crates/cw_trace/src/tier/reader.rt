@@ -7,8 +7,9 @@ use cw_order::Steps;
 use std::marker::Model;
 use std::sync::ledger::Ledger;
 
-/// A tier as a query sees it: by reads of any number, each with its ticks. This file alone sees more, so nothing that is made of these
-/// calls learns of a column, or which of two brackets comes first, without a tick. What names nothing reads as 0, `None` or false.
+/// A tier as a query sees it: any number may be read, and each read costs ticks. Only this file sees the tier itself. So code made
+/// of these calls learns nothing of a column, or of which of two brackets comes first, without a tick. A number that names nothing
+/// reads as 0, `None` or false.
 #[derive(Drop)]
 pub struct TierReader<'a> {
     tier: &'a Tier,
@@ -23,7 +24,7 @@ impl<'a> Model for TierReader<'a> {
 }
 
 impl Tier {
-    /// What a query sees of it.
+    /// Returns what a query sees of the tier.
     pub fn reader(&self) -> TierReader<'_>
         ensures { result ≡ self.now }
     {
@@ -49,7 +50,7 @@ impl Tier {
         }
     }
 
-    /// Whether a mark is one of a trace.
+    /// Returns whether a mark belongs to a trace.
     fn is_mark(&self, mark: u64) -> bool
         ensures { result ≡ has self.now.columns.brackets mark }
     {
@@ -57,7 +58,7 @@ impl Tier {
         trace < self.traces.len() as u64 && self.is_trace(trace as u32)
     }
 
-    /// Whether a mark of a trace stands before another.
+    /// Returns whether `a` and `b` are marks of traces and `a` comes before `b`.
     fn is_mark_before<L: Ledger>(&self, a: u64, b: u64, compares: &mut Steps<L>) -> bool
         ensures order { result ≡ columns.stands_before self.now.columns.brackets a b }
         ensures cost { compares.new ≤ compares.old + 1 }
@@ -71,7 +72,7 @@ impl Tier {
 }
 
 impl<'a> TierReader<'a> {
-    /// The trace of a strand.
+    /// Returns the trace of `strand`.
     pub fn owner_of<L: Ledger>(&self, strand: u32, looks: &mut Steps<L>) -> u32
         ensures value { result ≡ columns.owner self.now.columns strand }
         ensures cost { looks.new ≡ looks.old + 1 }
@@ -80,7 +81,7 @@ impl<'a> TierReader<'a> {
         self.tier.owner_at(strand)
     }
 
-    /// What is kept for a trace.
+    /// Returns the row of `trace`.
     pub(crate) fn row<L: Ledger>(&self, trace: u32, looks: &mut Steps<L>) -> Option<Trace>
         ensures value { result ≡ columns.trace self.now.columns trace }
         ensures cost { looks.new ≡ looks.old + 1 }
@@ -89,7 +90,7 @@ impl<'a> TierReader<'a> {
         self.tier.row_at(trace)
     }
 
-    /// Whether a mark of a trace stands before another: a look at the label of each.
+    /// Returns whether `a` and `b` are marks of traces and `a` comes before `b`. Looks at the label of each.
     pub(crate) fn is_before<K: Ledger, L: Ledger>(
         &self,
         a: u64,
