@@ -5,7 +5,7 @@ use cw_order::Steps;
 use cw_trace::{Columns, GapReader, TierReader};
 use std::sync::ledger::Ledger;
 
-/// A tier and gap words in memory: what they hold is told.
+/// A tier and gap words in memory. Each read is answered with what they hold.
 #[derive(Drop)]
 pub struct Held<'a> {
     pub tier: TierReader<'a>,

@@ -1,9 +1,8 @@
-//! The conflict query: whether the access made last and an access that is made next conflict, in a bounded number of steps, and which pending
-//! blocks above the asker are above the last access.
-//! Stands on `cw_order`, `cw_tree` and `cw_trace`.
-//! Contracts cite `cw_trace`: `specs/Query.antt` (the rules, from answers that were told and of a tier and gap words), `specs/Told.antt`
-//! (what is read and answered) and `specs/Verdicts.antt` (what a verdict says of the tree), and
-//! here `specs/Costs.antt` (how many looks a verdict takes).
+//! The conflict query: tells in a bounded number of steps whether an access would conflict with the last access of its cell. It
+//! also tells which pending blocks above the asker are above the last access.
+//! Use `ask` over a `Tier` and `Gaps` in memory, and `ask_by` over anything else that implements `Columns`.
+//! Contracts cite `specs/Costs.antt` (how many looks a verdict takes) and of `cw_trace` `specs/Query.antt` (the rules),
+//! `specs/Told.antt` (reads and answers) and `specs/Verdicts.antt` (what a verdict says of the tree).
 #![tactic(auto)]
 
 mod held;

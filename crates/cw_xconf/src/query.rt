@@ -13,7 +13,7 @@ use cw_trace::{Columns, Gaps, Tier};
 use cw_tree::Mark;
 use std::sync::ledger::Ledger;
 
-/// Whether two traces are one.
+/// Returns whether `trace` and `other` are the same trace.
 fn is_same<L: Ledger>(trace: u32, other: u32, compares: &mut Steps<L>) -> bool
     ensures value { result ≡ (trace == other) }
     ensures cost { compares.new ≡ compares.old + 1 }
@@ -22,7 +22,7 @@ fn is_same<L: Ledger>(trace: u32, other: u32, compares: &mut Steps<L>) -> bool
     trace == other
 }
 
-/// The word of a trace's lead, or 0 where it has none.
+/// Returns the word of the lead of `trace`, or 0 if it has no lead.
 fn lead_word<C: Columns, K: Ledger>(columns: &mut C, trace: u32, looks: &mut Steps<K>) -> u64
     requires { C.ready columns.old }
     ensures ready { C.ready columns.new }
@@ -36,7 +36,7 @@ fn lead_word<C: Columns, K: Ledger>(columns: &mut C, trace: u32, looks: &mut Ste
     }
 }
 
-/// Whether a strand's trace is another one or stands within it.
+/// Returns whether the trace of `strand` is `outer` or lies inside it.
 fn stands_in<C: Columns, K: Ledger, L: Ledger>(
     columns: &mut C,
     strand: u32,
@@ -55,7 +55,7 @@ fn stands_in<C: Columns, K: Ledger, L: Ledger>(
     is_same(trace, outer, compares) || columns.inside(trace, outer, looks, compares)
 }
 
-/// The verdict by the trace around that has a pending block, if there is one.
+/// Returns the verdict from `around`, the nearest trace around that has a pending block. If there is none, returns `Free`.
 fn ask_around<C: Columns, K: Ledger, L: Ledger>(
     columns: &mut C,
     around: Option<u32>,
@@ -82,8 +82,8 @@ fn ask_around<C: Columns, K: Ledger, L: Ledger>(
     }
 }
 
-/// The verdict that answers to reads give on the last access of a cell and the column of an asker. Where all that was told is what one
-/// tier and gap words hold, it says of each tree that they stand for what `ask` does.
+/// Returns the verdict, by answers to reads, for the last access of a cell and an asker in column `asker`. If every answer is what
+/// one tier and its gap words hold, the verdict says of each tree that they represent what the verdict of `ask` says.
 pub fn ask_by<C: Columns, K: Ledger, L: Ledger>(
     columns: &mut C,
     last: Mark,
@@ -116,7 +116,8 @@ pub fn ask_by<C: Columns, K: Ledger, L: Ledger>(
     }
 }
 
-/// Whether a pending block is above the last access: `block` has its begin stamp and the column of the strand that began it.
+/// Returns whether a pending block is above the last access. `block` has the begin stamp of the block and the column of the strand
+/// that began it.
 pub fn contains_by<C: Columns, K: Ledger, L: Ledger>(
     columns: &mut C,
     block: Mark,
@@ -142,8 +143,8 @@ pub fn contains_by<C: Columns, K: Ledger, L: Ledger>(
     }
 }
 
-/// Whether the last access of a cell and an access that an asker makes next conflict, by a tier and gap words: what the verdict says of
-/// every tree that they stand for.
+/// Returns whether the next access by the asker would conflict with the last access of its cell, by a tier and gap words. The
+/// verdict holds for every tree that they represent.
 pub fn ask<L: Ledger, K: Ledger>(
     tier: &Tier,
     gaps: &Gaps,
