@@ -1,5 +1,5 @@
--- A small run, tree and cell side by side. An outer block forks two strands. The left one writes in a block of its own and commits
--- it; the right one reads and writes in a block of its own, and that block is rolled back. The cell's first value is 7.
+-- A small run, with tree and cell side by side. An outer block forks two strands. The left one writes in a block of its own and
+-- commits it. The right one reads and writes in a block of its own, which is rolled back. The cell's first value is 7.
 use Rattle.std.specs.Prelude.{◌≡◌, ℕ, ℤ, List, [], ◌∷◌, ◌++◌, map, filter, nat_lt, Some, None, true, false, pos}
 use Rattle.cw_tree.specs.declared.node.Node.{Node}
 use Rattle.cw_tree.specs.declared.node.Kind.TheVariants.{Strand, Fork, Block, Read, Write}
@@ -58,7 +58,7 @@ restored = filter (λ e. nat_lt e.mark.stamp 7) three_entries
 
 -- ## Side by side
 
--- the cell's accesses in tree t are us, a chain; es is their journal, and both leave value v
+-- the cell's accesses in tree t are us, which is a chain; their journal is es, and both leave value v
 pub record Agree (t : List Node) (us : List ℕ) (es : List Entry) (v : ℤ) : Type 0 where
   pub live : live_accesses t 0 ≡ us
   pub chain : IsChain t us
@@ -74,7 +74,8 @@ pub record AllAgree : Type 0 where
   pub write_again : Agree wrote_right (7 ∷ 8 ∷ 9 ∷ []) three_entries (pos 9)
   pub roll : Agree rolled_back (7 ∷ []) restored (pos 8)
 
--- an access of the right strand conflicts with the write until the left block is committed; made before that it is no chain
+-- Until the left block is committed, an access by the right strand conflicts with its write. If it were made before, there would be
+-- no chain.
 pub record Waits : Type 0 where
   pub before : newest_conflicts wrote_left (7 ∷ []) 6 ≡ true
   pub after : newest_conflicts committed_left (7 ∷ []) 6 ≡ false

@@ -12,7 +12,7 @@ use cw_tree::{Entry, Mark};
 use std::alloc::Global;
 use std::marker::Model;
 
-/// A cell: its value, and its entries, those of its live accesses, oldest first. The oldest `cleaned` of them are never undone.
+/// A cell: its value, and the entries of its live accesses, oldest first. The oldest `cleaned` entries are never undone.
 #[derive(Drop)]
 pub struct Cell {
     value: i64,
@@ -32,7 +32,7 @@ impl Model for Cell {
 }
 
 impl Cell {
-    /// A cell with its first value, that no access was made of.
+    /// Returns a cell with the first value `init` and no accesses.
     pub fn new(alloc: Global, init: i64) -> Cell
         ensures first { result.first ≡ init }
         ensures entries { result.entries ≡ [] }
@@ -59,7 +59,7 @@ impl Cell {
         Ok(())
     }
 
-    /// An access that reads, or writes a value. Answers the cell's value after it. Takes no memory.
+    /// Makes an access that reads, or writes the value in `write`. Returns the cell's value after it. Does not allocate.
     pub fn access(&mut self, mark: Mark, write: Option<i64>) -> i64
         requires room { 0 < self.old.room }
         requires later { IfSome (newest_entry self.old.entries) (λ e. e.mark.stamp < mark.stamp) }
@@ -93,7 +93,7 @@ impl Cell {
         self.cleaned = self.entries.len();
     }
 
-    /// Takes away the entries from the one with stamp `first` on, and restores the value from before them. Takes no memory.
+    /// Removes the entries from the one with stamp `first` on, and restores the value from before them. Does not allocate.
     pub fn roll(&mut self, first: u64)
         requires { Contains (stamps (drop self.old.cleaned self.old.entries)) first }
         ensures entries { self.new.entries ≡ filter (λ e. nat_lt e.mark.stamp first) self.old.entries }
@@ -109,7 +109,7 @@ impl Cell {
         self.entries.truncate(left);
     }
 
-    /// The value from before the entry with stamp `first`: what a roll of it would restore. Takes no memory.
+    /// Returns the value from before the entry with stamp `first`, which a roll of that entry would restore. Does not allocate.
     pub fn before(&self, first: u64) -> i64
         requires { Contains (stamps (drop self.now.cleaned self.now.entries)) first }
         ensures entry { (es : List Entry) (e : Entry) (fs : List Entry) → self.now.entries ≡ es ++ e ∷ fs → e.mark.stamp ≡ first → result ≡ e.old }
@@ -119,21 +119,21 @@ impl Cell {
         self.entries[place_of(self.entries.as_slice(), first)].old
     }
 
-    /// Whether an entry has this stamp that may be rolled back.
+    /// Returns whether there is an entry with stamp `first` that may be rolled back.
     pub fn may_roll(&self, first: u64) -> bool
         ensures { IsTrue result ↔ Contains (stamps (drop self.now.cleaned self.now.entries)) first }
     {
         has_stamp(&self.entries[self.cleaned..], first)
     }
 
-    /// The value.
+    /// Returns the value.
     pub fn value(&self) -> i64
         ensures { result ≡ entries_value self.now }
     {
         self.value
     }
 
-    /// The mark of the newest entry.
+    /// Returns the mark of the newest entry.
     pub fn last(&self) -> Option<Mark>
         ensures none { IsNone result ↔ (self.now.entries ≡ []) }
         ensures newest { result ≡ option_map (λ e. e.mark) (newest_entry self.now.entries) }
@@ -141,7 +141,8 @@ impl Cell {
         self.entries.last().map(|entry| entry.mark)
     }
 
-    /// The entries, oldest first: their stamps rise, each has the value that those before it left, and the value that it leaves.
+    /// Returns the entries, oldest first. Their stamps rise. Each has the value that those before it left, and the value that it
+    /// leaves.
     pub fn journal(&self) -> &[Entry]
         ensures entries { result.now ≡ self.now.entries }
         ensures rising { IsStrictlyIncreasing (stamps self.now.entries) }
@@ -151,7 +152,7 @@ impl Cell {
         self.entries.as_slice()
     }
 
-    /// The stamps of the newest eight entries, or of all where there are fewer, oldest first.
+    /// Returns the stamps of the newest eight entries, or of all if there are fewer, oldest first.
     pub fn chain(&self) -> Result<Vec<u64>, OutOfMemory>
         ensures { IfOk result (λ chain. chain.items ≡ last_eight (stamps self.now.entries)) }
     {
@@ -164,7 +165,7 @@ impl Cell {
     }
 }
 
-// Whether an entry has this stamp, looked for from the newest on.
+// Returns whether an entry has stamp `first`. Searches from the newest on.
 fn has_stamp(entries: &[Entry], first: u64) -> bool
     requires { IsStrictlyIncreasing (stamps entries.now) }
     ensures { IsTrue result ↔ Contains (stamps entries.now) first }
@@ -176,7 +177,7 @@ fn has_stamp(entries: &[Entry], first: u64) -> bool
     left > 0 && entries[left - 1].mark.stamp == first
 }
 
-// The place of the entry with a stamp, found from the newest on.
+// Returns the position of the entry with stamp `first`. Searches from the newest on.
 fn place_of(entries: &[Entry], first: u64) -> usize
     requires there { Contains (stamps entries.now) first }
     requires rising { IsStrictlyIncreasing (stamps entries.now) }

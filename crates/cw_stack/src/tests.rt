@@ -6,8 +6,8 @@ use std::alloc::Global;
 use std::process::Abort;
 use std::test::Fail;
 
-/// What is done with a cell: an access with its stamp and what it writes, a clean, a look at the value from before what has a stamp, a roll
-/// of that and of what came later.
+/// A step on a cell: an access with its stamp and the value it writes, a clean, a look at the value from before the entry with a
+/// stamp, or a roll of that entry and all later ones.
 #[derive(Clone, Copy)]
 enum Step {
     Read(u64),
@@ -17,7 +17,8 @@ enum Step {
     Roll(u64),
 }
 
-/// What a cell shows: its value after each step, or the one that was looked at, and at the end its newest stamps, the last of them, and the value before each entry.
+/// What a cell shows: its value after each step, or the value that was looked at. At the end: its newest stamps, the last of them,
+/// and the value before each entry.
 #[derive(Drop)]
 struct Seen {
     values: Vec<i64>,
@@ -99,7 +100,7 @@ fn olds(alloc: Global, entries: &[Entry]) -> Result<Vec<i64>, Fail> {
     Ok(olds)
 }
 
-/// Some steps from a first value of 7, and what has to be seen.
+/// Steps from a first value of 7, and what they have to show.
 struct Row {
     steps: &'static [Step],
     values: &'static [i64],
@@ -182,7 +183,7 @@ const ROWS: [Row; 8] = [
         last: Some(3),
         olds: &[7, 3],
     },
-    // what is put back: the first of the entries that go may be a read
+    // what a roll restores: the first of the entries that it removes may be a read
     Row {
         steps: &[
             Step::Write(2, 8),
