@@ -6,14 +6,14 @@ use Rattle.cw_tree.specs.AccessStacks.{access_at}
 use Rattle.cw_stack.specs.Cells.{entry_of}
 use Rattle.cw_core.specs.State.{CoreState, column_of}
 
--- the entries of accesses with these stamps, one after another, of which the first met value v
+-- the entries of accesses with these stamps, one after another; the first of them found value v
 abbrev pub journal : CoreState → ℤ → List ℕ → List Entry
 journal k v [] = []
 journal k v (s ∷ ss) =
     let u = access_at k.machine.tree s in
     entry_of (record { strand = column_of k u; stamp = s }) (written k.machine.tree u) v ∷ journal k (unwrap_or (written k.machine.tree u) v) ss
 
--- those of the live accesses of each cell, by the cells' first values
+-- for each cell, the entries of its live accesses, from the cell's first value
 abbrev pub journals : CoreState → List ℤ → List (List ℕ) → List (List Entry)
 journals k [] ls = []
 journals k (v ∷ vs) [] = []

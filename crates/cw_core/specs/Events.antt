@@ -1,4 +1,4 @@
--- Which events fit, the steps of the open machine that each stands for, what it makes of the tier and the gap words, and its answer.
+-- Which events fit, the steps of the open machine that each stands for, what it makes of the tier and the gap words, and the reply.
 use Rattle.std.specs.Prelude.{ℕ, ◌+◌, ◌==◌, ◌&&◌, ◌||◌, Bool, true, false, not, nat_lt, nat_le, List, [], ◌∷◌, ◌++◌, map, length, filter, find, slice_index, Option, Some, is_none, unwrap_or, if◌then◌else◌}
 use Rattle.std.specs.List.{list_any, list_all}
 use Rattle.std.specs.Option.{option_map_or}
@@ -26,7 +26,7 @@ use Rattle.cw_core.specs.State.{CoreState, column_of, gap_of, has_columns, is_sp
 
 -- ## Which events fit
 
--- a strand of the tree may stop at a fault of its own; one that has spent its budget may where it did
+-- a strand may stop at a fault of its own, one that has spent its budget may stop for that, and a stop for memory is always allowed
 abbrev pub may_stop : CoreState → Halt → Bool
 may_stop k (halt.Fault s kind) = is_strand k.machine.tree s
 may_stop k (halt.Budget s) = option_map_or (λ x. x == s) (spent k) false
@@ -36,7 +36,7 @@ may_stop k halt.Memory = true
 abbrev pub is_unstarted : CoreState → ℕ → Bool
 is_unstarted k f = list_all (λ r. not (list_any (λ l. nat_lt l r) (children k.machine.tree f)) || ((length (children k.machine.tree r) == 0) && not (has_finished k.machine r))) (children k.machine.tree f)
 
--- what an event needs, where nothing has stopped and no budget is spent
+-- what an event needs, given that nothing has stopped and no budget is spent
 abbrev pub fits_now : CoreState → Event → Bool
 fits_now k (event.Fork s) = is_free k.machine s && not (waits_for_left k s)
 fits_now k (event.Begin s) = is_free k.machine s && not (waits_for_left k s)
@@ -54,14 +54,14 @@ abbrev pub is_stop : Event → Bool
 is_stop (event.Stop h) = true
 is_stop _ = false
 
--- a commit, a roll and a stop take no memory
+-- a commit, a roll and a stop do not allocate
 abbrev pub takes_none : Event → Bool
 takes_none (event.Commit s) = true
 takes_none (event.Roll s) = true
 takes_none (event.Stop h) = true
 takes_none _ = false
 
--- after a stop nothing fits, and once a budget is spent a stop alone
+-- nothing fits after a stop, and only a stop fits once a budget is spent
 abbrev pub fits : CoreState → Event → Bool
 fits k e = is_none k.halt && (is_none (spent k) || is_stop e) && fits_now k e
 
@@ -75,7 +75,7 @@ abbrev pub against : Verdict → ℕ
 against (Against b) = b
 against _ = 0
 
--- what an access of cell c by strand s meets where it is refused: its newest access, and the block that the columns name
+-- what a refused access of cell c by strand s meets: the newest access of the cell, and the block that the columns name
 abbrev pub met_by : CoreState → ℕ → ℕ → Met
 met_by k s c =
     let last = unwrap_or (find (λ u. true) (newest (live k.machine c))) 0 in
@@ -89,7 +89,7 @@ met_by k s c =
 abbrev pub is_met : CoreState → ℕ → ℕ → Bool
 is_met k s c = meets k.machine.tree (newest (live k.machine c)) (place k.machine.tree s)
 
--- the cells with a live access beneath the block in which strand s stands
+-- the cells with a live access beneath the place of strand s
 abbrev pub touched : CoreState → ℕ → List ℕ
 touched k s = filter (λ c. list_any (λ u. is_above k.machine.tree (place k.machine.tree s) (access_at k.machine.tree u)) (live k.machine c)) (below (length k.machine.lists))
 
@@ -98,7 +98,7 @@ stop_steps (halt.Fault s kind) = stops s ∷ []
 stop_steps (halt.Budget s) = stops s ∷ []
 stop_steps halt.Memory = []
 
--- the steps that an event stands for: stamps are drawn in order, one for each, and none for a refused access
+-- the steps that an event stands for; a step that draws a stamp draws the next one, and a refused access draws none
 abbrev pub steps_of : CoreState → Event → List Step
 steps_of k (event.Fork s) = forks s (next k) ∷ []
 steps_of k (event.Begin s) = begins s (next k) ∷ []
@@ -114,7 +114,7 @@ steps_of k (event.Stop h) = stop_steps h
 
 -- ## The tier
 
--- another fork has to be split before fork f, by the column of its left strand
+-- the left column of the fork that has to be split before fork f, if there is one
 abbrev pub is_early : CoreState → ℕ → Option ℕ
 is_early k f = before_split k.tier (fork_column k.machine.tree f)
 
@@ -141,7 +141,7 @@ abbrev pub halt_after : CoreState → Event → Option Halt
 halt_after k (event.Stop h) = Some h
 halt_after k _ = k.halt
 
--- ## After an event, and its answer
+-- ## After an event, and the reply
 
 abbrev pub after_event : CoreState → Event → CoreState
 after_event k e = record { machine = after_all k.machine (steps_of k e); tier = tier_after k e; words = words_after k e; splits = splits_after k e; budget = k.budget; halt = halt_after k e }
@@ -163,7 +163,7 @@ abbrev pub after_events : CoreState → List Event → CoreState
 after_events k [] = k
 after_events k (e ∷ es) = after_events (after_event k e) es
 
--- each fits where it comes
+-- each event fits where it comes
 abbrev pub all_fit : CoreState → List Event → Bool
 all_fit k [] = true
 all_fit k (e ∷ es) = fits k e && all_fit (after_event k e) es

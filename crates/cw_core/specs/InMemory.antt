@@ -1,4 +1,4 @@
--- What is seen of a core by its fields.
+-- The state of a core, by its fields.
 use Rattle.std.specs.Prelude.{map}
 use Rattle.cw_tree.specs.AccessStacks.{stamps}
 use Rattle.cw_core.specs.declared.cores.Core.TheInside.{Inside}

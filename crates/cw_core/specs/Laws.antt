@@ -23,32 +23,32 @@ use Rattle.cw_core.specs.declared.event.Reply.TheVariants as reply
 use Rattle.cw_core.specs.State.{CoreState, start, joined_columns, waits_for_left, column_of}
 use Rattle.cw_core.specs.Events.{fits, after_event, steps_of, reply_to, all_fit, after_events, steps_of_all}
 
--- where a fork is not split, nothing is done in its right strand before its left one finished
+-- if a fork is not split, nothing is done in its right strand before the left one finished
 abbrev pub IsLeftFirst : ColumnTable → List Node → List ℕ → (ℕ → Bool) → Type 0
 IsLeftFirst c t splits open_at =
     (l r n : ℕ) → 0 < l → l < r → r < length t → parent_of t l ≡ parent_of t r → IsTrue (is_fork t (parent_of t r)) → IsUnsplit c t splits (parent_of t r) → n < length t → IsTrue (is_ancestor t r n) → n ≢ r → open_at l ≡ false
 
--- the core stands for the open machine over these first values
+-- the core represents the open machine over these first values
 pub record IsCore (first : List ℤ) (k : CoreState) : Type 0 where
-  -- which is in a state that a run leads to, with no undo under way
+  -- the machine is in a state that a run reaches, with no undo under way
   pub reached : IsReachedBy at_once first k.machine
   pub complete : NoneUndone k.machine
   pub joined : (f : ℕ) → IsTrue (has k.machine.joined f) → IsTrue (is_fork k.machine.tree f)
   pub left_first : IsLeftFirst k.tier k.machine.tree k.splits (is_open k.machine)
-  -- and the tier for its tree
+  -- the tier represents the machine's tree
   pub stands : Keeps k.tier k.words k.machine.tree k.splits (joined_columns k)
 
 -- ## Events
 
--- it does so before the first event, with room for one strand at least
+-- so it is before the first event, with room for at least one strand
 abbrev pub StartsAreCores : Type 0
 StartsAreCores = (first : List ℤ) (room budget : ℕ) → 0 < room → IsCore first (start first room budget)
 
--- an event that fits makes a run of just the steps that it stands for, and the core stands for what that leads to
+-- an event that fits makes a run of exactly the steps that it stands for, and the core represents the state that this leads to
 abbrev pub EventsAreRuns : Type 0
 EventsAreRuns = (first : List ℤ) (k : CoreState) (e : Event) → IsCore first k → IsTrue (fits k e) → IsRun at_once k.machine (steps_of k e) × IsCore first (after_event k e)
 
--- so a list of events that fit is a run of their steps, and what it comes to is what these lead to
+-- so a list of events that fit is a run of their steps, and leads to the state that these lead to
 abbrev pub ListsAreRuns : Type 0
 ListsAreRuns =
     (first : List ℤ) (room budget : ℕ) (es : List Event) → 0 < room → IsTrue (all_fit (start first room budget) es)
@@ -58,15 +58,15 @@ ListsAreRuns =
 
 -- ## What follows
 
--- each cell's list has just its live accesses, and they are a chain
+-- the list of each cell has exactly its live accesses, and they are a chain
 abbrev pub HasChains : CoreState → Type 0
 HasChains k = (c : ℕ) → (live k.machine c ≡ map (stamp_of k.machine.tree) (live_accesses k.machine.tree c)) × IsChainOf k.machine.tree c (live k.machine c)
 
--- this is so of each core
+-- each core has such lists
 abbrev pub CellsAreChains : Type 0
 CellsAreChains = (first : List ℤ) (k : CoreState) → IsCore first k → HasChains k
 
--- a strand that may step goes on beneath each pending block begun in its trace: what the query asks
+-- a strand that may step goes on beneath each pending block begun in its trace, as the query requires
 abbrev pub StrandsGoOn : Type 0
 StrandsGoOn =
     (first : List ℤ) (k : CoreState) (s : ℕ) → IsCore first k → IsTrue (is_running k.machine s) → waits_for_left k s ≡ false
@@ -78,12 +78,12 @@ StrandsGoOn =
 abbrev pub Bars : CoreState → (f m : ℕ) → Type 0
 Bars k f m = IsBarring k.tier k.machine.tree k.splits (joined_columns k) f m
 
--- fork m bars fork f, and each other that does is further out
+-- fork m bars fork f, and each other fork that bars it lies further out
 pub record IsNextOut (k : CoreState) (f m : ℕ) : Type 0 where
   pub bars : Bars k f m
   pub next : (n : ℕ) → Bars k f n → IsTrue (is_ancestor k.machine.tree n m)
 
--- a split is done where no fork bars it, and else it is early, and names the next one outward
+-- a split is done if no fork bars it; otherwise it is early, and the reply names the next fork outward
 abbrev pub SplitsAreAnswered : Type 0
 SplitsAreAnswered =
     (first : List ℤ) (k : CoreState) (f : ℕ) → IsCore first k → IsTrue (fits k (event.Split f))
@@ -91,7 +91,7 @@ SplitsAreAnswered =
 
 -- ## What splits change
 
--- a conflict but for the block that it names
+-- the conflict without the block that it names
 abbrev pub blockless : Conflict → Conflict
 blockless c = record c { block = 0 }
 
@@ -106,7 +106,7 @@ abbrev pub is_split_event : Event → Bool
 is_split_event (event.Split f) = true
 is_split_event _ = false
 
--- two cores that are the same but for what splits change
+-- the cores are the same, except for what splits change
 pub record AreAlike (k j : CoreState) : Type 0 where
   pub machine : without_blocks k.machine ≡ without_blocks j.machine
   pub columns : used k.tier ≡ used j.tier
@@ -118,23 +118,23 @@ pub record AreAlike (k j : CoreState) : Type 0 where
 abbrev pub SplitsChangeNothing : Type 0
 SplitsChangeNothing = (k : CoreState) (f : ℕ) → ((after_event k (event.Split f)).machine ≡ k.machine) × AreAlike (after_event k (event.Split f)) k
 
--- two such cores answer each event but a split alike, but for the block of a conflict
+-- two such cores give the same reply to each event other than a split, except for the block of a conflict
 abbrev pub AlikeAnswer : Type 0
 AlikeAnswer = (k j : CoreState) (e : Event) → AreAlike k j → is_split_event e ≡ false → without_block (reply_to k e) ≡ without_block (reply_to j e)
 
--- and they stay so, whatever event is made of both
+-- and they stay alike if any event is made in both
 abbrev pub AlikeStay : Type 0
 AlikeStay = (k j : CoreState) (e : Event) → AreAlike k j → AreAlike (after_event k e) (after_event j e)
 
 abbrev pub without_splits : List Event → List Event
 without_splits es = filter (λ e. not (is_split_event e)) es
 
--- the answers to all of a list of events but its splits, but for the blocks that conflicts name
+-- the replies to all events of a list other than splits, without the blocks that conflicts name
 abbrev pub other_answers : CoreState → List Event → List Reply
 other_answers k [] = []
 other_answers k (e ∷ es) = if is_split_event e then other_answers (after_event k e) es else without_block (reply_to k e) ∷ other_answers (after_event k e) es
 
--- so two lists of events that differ in their splits alone have the same other answers, and lead to cores that are alike
+-- so two lists of events that differ only in their splits have the same other replies, and lead to cores that are alike
 abbrev pub SplitsChangeNoAnswer : Type 0
 SplitsChangeNoAnswer =
     (k : CoreState) (es fs : List Event) → without_splits es ≡ without_splits fs → (other_answers k es ≡ other_answers k fs) × AreAlike (after_events k es) (after_events k fs)

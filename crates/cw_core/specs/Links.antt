@@ -1,4 +1,4 @@
--- The links of a tree: its nodes' children from the last on, and a walk by them.
+-- The links of a tree: the children of its nodes from the last on, and a walk along them.
 use Rattle.std.specs.Prelude.{◌≡◌, ℕ, Bool, true, false, List, [], ◌∷◌, ◌++◌, length, slice_get, slice_set, Option, Some, None, if◌then◌else◌}
 use Rattle.cw_tree.specs.declared.node.Node.{Node}
 use Rattle.cw_tree.specs.Nodes.{parent_of, is_aborted}
@@ -14,7 +14,7 @@ pub record AreLinks (t : List Node) (links : List Link) : Type 0 where
   pub len : length links ≡ length t
   pub each : (n : ℕ) (r : Link) → slice_get links n ≡ Some r → IsLink t n r
 
--- node n comes last among the children of node p
+-- the links after node n became the last child of node p
 abbrev pub put_link : (p n : ℕ) → List Link → List Link
 put_link p n links =
     with_link (slice_get links p) where
@@ -22,8 +22,8 @@ put_link p n links =
       with_link None = links
       with_link (Some r) = slice_set links p (record r { last = Some n }) ++ record { last = None; elder = r.last } ∷ []
 
--- a walk comes down to a node, or is done with all beneath it: so it goes on to its last child, to the child before it, or to its parent.
--- What stands beneath an aborted block is left out.
+-- A walk came down to node n, or is done with all beneath it. It goes on to the last child of n, to the child before n, or to the
+-- parent of n. It leaves out what is beneath an aborted block.
 abbrev pub next_in_walk : List Node → ℕ → Bool → ℕ × Bool
 next_in_walk t n true = if is_aborted t n then (n, false) else into (last_child t n) where
   into : Option ℕ → ℕ × Bool

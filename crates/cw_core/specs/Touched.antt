@@ -1,4 +1,4 @@
--- The cells that were accessed beneath a block, and what is put back of them where it is given up.
+-- The cells that were accessed beneath a block, and what is put back in them if the block is given up.
 use Rattle.std.specs.Prelude.{◌≡◌, ℕ, ℤ, pos, ◌≤◌, ◌||◌, min, Bool, true, List, map, filter, Contains, is_some, slice_get, Option, Some, None, if◌then◌else◌}
 use Rattle.std.specs.Option.{option_map_or}
 use Rattle.std.specs.BTreeMap.{BTreeMap, get}
@@ -15,7 +15,7 @@ use Rattle.cw_core.specs.Undone.{before_stamp}
 
 -- ## What is noted of accesses
 
--- one more access of a cell, after what was noted of it
+-- what is noted of a cell after one more access
 abbrev pub with_access : (stamp : ℕ) → (wrote : Bool) → Option Touched → Touched
 with_access stamp wrote None = record { first = stamp; wrote = wrote }
 with_access stamp wrote (Some x) = record { first = min x.first stamp; wrote = x.wrote || wrote }
@@ -31,7 +31,7 @@ pub record IsAccessBeneath (t : List Node) (b c n : ℕ) : Type 0 where
   pub live : is_live t n ≡ true
   pub over : is_above t b n ≡ true
 
--- what is noted of cell c is of such accesses
+-- what is noted of cell c is true of such accesses
 pub record IsTouched (t : List Node) (b c : ℕ) (x : Touched) : Type 0 where
   pub first : (n : ℕ) × IsAccessBeneath t b c n × (stamp_of t n ≡ x.first)
   pub wrote : x.wrote ≡ true → (n : ℕ) × IsAccessBeneath t b c n × (is_some (written t n) ≡ true)
@@ -43,23 +43,23 @@ pub record WasNoted (t : List Node) (c n : ℕ) (touched : BTreeMap ℕ Touched)
   pub first : now.first ≤ stamp_of t n
   pub wrote : is_some (written t n) ≡ true → now.wrote ≡ true
 
--- just the live accesses beneath block b were noted
+-- exactly the live accesses beneath block b were noted
 pub record AreTouched (t : List Node) (b : ℕ) (touched : BTreeMap ℕ Touched) : Type 0 where
   pub each : (c : ℕ) (x : Touched) → get nat_cmp touched c ≡ Some x → IsTouched t b c x
   pub all : (c n : ℕ) → IsAccessBeneath t b c n → WasNoted t c n touched
 
 -- ## What is put back
 
--- the first access that was noted of a cell has its entry there
+-- each noted cell has the entry of the first access that was noted of it
 abbrev pub HaveEntries : BTreeMap ℕ Touched → List CellParts → Type 0
 HaveEntries touched cells =
     (c : ℕ) (x : Touched) → get nat_cmp touched c ≡ Some x → (cell : CellParts) × (slice_get cells c ≡ Some cell) × (cell.cleaned ≡ 0)
     × Contains (stamps cell.entries) x.first
 
--- what the entries of a cell before a stamp left
+-- the value that the entries before a stamp left
 abbrev pub value_before : ℕ → CellParts → ℤ
 value_before stamp cell = cell_value cell.first (map written_by (before_stamp stamp cell.entries))
 
--- those of them that were written, each with its value from before the first access that was noted
+-- the noted cells that were written, each with its value from before the first access that was noted
 abbrev pub backs_of : List CellParts → List (ℕ × Touched) → List Back
 backs_of cells es = map (λ e. record { cell = e.0; value = option_map_or (value_before e.1.first) (slice_get cells e.0) (pos 0) }) (filter (λ e. e.1.wrote) es)

@@ -1,4 +1,4 @@
--- Lists of events, and what the definitions say of them.
+-- Lists of events, and what the definitions compute for them.
 use Rattle.std.specs.Prelude.{◌≡◌, List, [], ◌∷◌, Some, None, true, false, pos, map}
 use Rattle.cw_code.specs.declared.Back.{Back}
 use Rattle.cw_tree.specs.declared.closed.Halt.TheVariants.{Budget, Memory}
@@ -9,7 +9,7 @@ use Rattle.cw_core.specs.declared.event.Reply.TheVariants as reply
 use Rattle.cw_core.specs.State.{CoreState, start}
 use Rattle.cw_core.specs.Events.{fits, all_fit, after_event, after_events, replies}
 
--- ## Splits: the fork outward comes first; a fork without columns
+-- ## Splits: the fork outward comes first; a fork without columns is not split
 
 abbrev pub out_of_order : List Event
 out_of_order = event.Fork 0 ∷ event.Fork 2 ∷ event.Split 4 ∷ event.Split 1 ∷ event.Split 4 ∷ event.Fork 5 ∷ []
@@ -25,7 +25,7 @@ pub record Splits : Type 0 where
   pub waits : fits (after_events five_columns out_of_order) (event.Begin 9) ≡ false
   pub goes_on : fits (after_events five_columns out_of_order) (event.Begin 8) ≡ true
 
--- ## A block ends after an inner one was committed in it, and rolls back what that wrote
+-- ## A block is rolled back after an inner one was committed in it, and so is what the inner one wrote
 
 abbrev pub inner_commit : List Event
 inner_commit =
@@ -45,7 +45,7 @@ pub record Rolls : Type 0 where
   pub clock : rolled.machine.clock ≡ 11
   pub goes_on : fits rolled (event.Begin 3) ≡ true
 
--- ## A write in a split fork that is joined in a block, and where there is none
+-- ## A write in a split fork that is joined within a block, and one in a fork that is joined before a block
 
 abbrev pub two_cells : CoreState
 two_cells = start (pos 0 ∷ pos 0 ∷ []) 100 100000
@@ -71,7 +71,7 @@ pub record Joins : Type 0 where
   pub before : replies two_cells joined_before
       ≡ reply.Forked 2 3 1 ∷ reply.Done ∷ reply.Forked 5 6 4 ∷ reply.Done ∷ reply.Value (pos 1) ∷ reply.Value (pos 5) ∷ reply.Done ∷ reply.Done ∷ reply.Done ∷ reply.Done ∷ reply.Value (pos 2) ∷ []
 
--- ## Blocks that are given up: what a joined strand wrote is put back, too, and again as long as the block is pending
+-- ## Blocks that are given up: what a joined strand wrote is put back, too, and again while the block is pending
 
 abbrev pub wrote_beneath : List Event
 wrote_beneath =
@@ -83,7 +83,7 @@ wrote_beneath =
 abbrev pub one_and_two : CoreState
 one_and_two = start (pos 1 ∷ pos 2 ∷ []) 5 9
 
--- what was rolled back is not put back, nor what is only read; the first access beneath a block may be a read
+-- What was rolled back is not put back, nor what was only read. The first access beneath a block may be a read.
 
 abbrev pub rolled_beneath : List Event
 rolled_beneath =
@@ -112,12 +112,12 @@ pub record Cancels : Type 0 where
       ∷ reply.Back (record { cell = 1; value = pos 6 } ∷ []) ∷ reply.Value (pos 6) ∷ reply.Done
       ∷ reply.Conflict (record { cell = 0; last = 4; asker = 13; block = 3; victim = 5; attempt = 1; chain = 4 ∷ [] })
       ∷ reply.Done ∷ reply.Done ∷ reply.Value (pos 6) ∷ reply.Back [] ∷ []
-  -- before any begin, by a strand in its parent's block, and by one that waits
+  -- no cancel fits before a begin, in a strand within its parent's block, or in a strand that waits
   pub no_block : fits one_and_two (event.Cancel 0) ≡ false
   pub not_its : fits (after_events one_and_two (event.Begin 0 ∷ event.Fork 0 ∷ [])) (event.Cancel 3) ≡ false
   pub waits : fits (after_events one_and_two (event.Begin 0 ∷ event.Fork 0 ∷ [])) (event.Cancel 0) ≡ false
 
--- ## A budget is spent beneath a strand that waits; with another attempt left the strands die, and their parent rolls back
+-- ## A budget is spent beneath a strand that waits. With another attempt left, the strands die and their parent rolls back
 
 abbrev pub refused_beneath : List Event
 refused_beneath = event.Fork 0 ∷ event.Split 1 ∷ event.Begin 2 ∷ event.Access 2 0 (Some (pos 1)) ∷ event.Begin 3 ∷ event.Fork 3 ∷ event.Access 8 0 (Some (pos 2)) ∷ []

@@ -13,14 +13,14 @@ use cw_tree::Kind;
 use std::alloc::Global;
 use std::collections::BTreeMap;
 
-/// Of a cell that was accessed beneath a block: the stamp of the first access there, and whether one of them wrote.
+/// What is noted of a cell that was accessed beneath a block: the stamp of the first access there, and whether one of them wrote.
 #[derive(Clone, Copy, Drop)]
 pub(crate) struct Touched {
     pub(crate) first: u64,
     pub(crate) wrote: bool,
 }
 
-/// An access of a cell is noted.
+/// Notes an access of `cell`.
 fn note(
     touched: &mut BTreeMap<u32, Touched>,
     cell: u32,
@@ -43,7 +43,7 @@ fn note(
     Ok(())
 }
 
-/// A node is noted, if it is an access.
+/// Notes `node`, if it is an access.
 fn note_node(
     touched: &mut BTreeMap<u32, Touched>,
     tree: &Linked,
@@ -60,7 +60,7 @@ fn note_node(
     }
 }
 
-/// The cells that were accessed beneath a block, by accesses that are live: a walk of what stands beneath it.
+/// Returns the cells that live accesses beneath `block` touched. Walks all nodes beneath it.
 pub(crate) fn touched_beneath(
     alloc: Global,
     tree: &Linked,
@@ -85,7 +85,7 @@ pub(crate) fn touched_beneath(
     Ok(touched)
 }
 
-/// Each of these cells that was written, by rising number, with its value from before the first access there.
+/// Returns each touched cell that was written, by rising number, with its value from before the first access there.
 pub(crate) fn backs(
     alloc: Global,
     cells: &Vec<Cell>,

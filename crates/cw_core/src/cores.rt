@@ -41,7 +41,7 @@ use std::sync::ledger::{Blank, Ledger};
 #[derive(Drop)]
 pub struct Core {
     tree: Linked,
-    /// One for each node.
+    /// One row for each node.
     rows: Vec<Row>,
     cells: Vec<Cell>,
     tier: Tier,
@@ -59,7 +59,7 @@ pub struct Core {
     halt: Option<Halt>,
 }
 
-/// A gap's word is taken by a new outermost block.
+/// Gives the gap's word to a new outermost block: sets it to `stamp` if it is 0.
 fn begin_word(gaps: &mut Gaps, gap: u32, stamp: u64)
     requires { gap < vec_len gaps.old.words }
     ensures { gaps.new.words.items ≡ begun_word gaps.old.words.items gap stamp }
@@ -69,7 +69,7 @@ fn begin_word(gaps: &mut Gaps, gap: u32, stamp: u64)
     }
 }
 
-/// A gap's word is given up where its block closes.
+/// Clears the gap's word if the block that was begun at `begun` had taken it.
 fn end_word(gaps: &mut Gaps, gap: u32, begun: u64)
     requires { gap < vec_len gaps.old.words }
     ensures { gaps.new.words.items ≡ closed_word gaps.old.words.items gap begun }
@@ -79,7 +79,7 @@ fn end_word(gaps: &mut Gaps, gap: u32, begun: u64)
     }
 }
 
-/// The traces of a fork go back to the one around it, if it was split.
+/// Merges the traces of a fork into the trace around it, if the fork was split.
 fn merge_where(tier: &mut Tier, split: bool, column: u32)
     requires low { IsTrue split → column < used tier.old.columns }
     requires left { IsTrue split → column % 2 ≡ 1 }
@@ -91,7 +91,7 @@ fn merge_where(tier: &mut Tier, split: bool, column: u32)
     }
 }
 
-/// The number, if it passed, or what was found before.
+/// Returns `node` if it passed, otherwise what was found before.
 fn or_later(passed: bool, node: u32, found: Option<u32>) -> Option<u32>
     ensures { result ≡ (if passed then Some node else found) }
 {
@@ -110,7 +110,7 @@ impl Model for Core {
     ghost invariant = { IsCoreInMemory };
 }
 
-/// The cells with their first values, that no access was made of.
+/// Returns cells with these first values and no accesses.
 fn first_cells(alloc: Global, init: &[i64]) -> Result<Vec<Cell>, OutOfMemory>
     ensures { IfOk result (λ cells. cells.items ≡ map fresh_cell init.now) }
 {
@@ -122,7 +122,7 @@ fn first_cells(alloc: Global, init: &[i64]) -> Result<Vec<Cell>, OutOfMemory>
 }
 
 impl Core {
-    /// A core over cells with these first values, before its first event.
+    /// Returns a core over cells with these first values, before its first event.
     pub fn new(alloc: Global, init: &[i64], limits: Limits) -> Result<Core, OutOfMemory>
         requires { 0 < limits.strands }
         ensures { IfOk result (λ core. core ≡ start init.now limits.strands limits.aborts) }
@@ -147,14 +147,14 @@ impl Core {
         })
     }
 
-    /// The computation tree.
+    /// Returns the computation tree.
     pub fn tree(&self) -> &Tree
         ensures { result.now ≡ self.now.machine.tree }
     {
         self.tree.tree()
     }
 
-    /// What is kept for a node.
+    /// Returns the row of node `n`.
     fn row(&self, n: u32) -> Row
         requires { n < length self.now.machine.tree }
         ensures row { IsRow self.now n result }
@@ -163,7 +163,7 @@ impl Core {
         self.rows[n as usize]
     }
 
-    /// Whether the left strand of a strand's fork has to finish before it.
+    /// Returns whether `strand` has to wait until the left strand of its fork finishes.
     fn waits_for_left(&self, strand: u32) -> bool
         requires { IsTrue (is_strand self.now.machine.tree strand) }
         ensures { result ≡ waits_for_left self.now strand }
@@ -177,7 +177,7 @@ impl Core {
         }
     }
 
-    /// Whether a node is a pending block that is not above an access.
+    /// Returns whether `node` is a pending block that is not above the access `last`.
     fn may_fall<K: Ledger, L: Ledger>(
         &self,
         node: u32,
@@ -204,7 +204,7 @@ impl Core {
         !contains_by(&mut held, block, last, looks, compares)
     }
 
-    /// The outermost block that may fall for an access, of a place and the nodes above it.
+    /// Returns the outermost block that may fall for an access, among `place` and the nodes above it.
     fn victim<K: Ledger, L: Ledger>(
         &self,
         place: u32,
@@ -227,7 +227,7 @@ impl Core {
         found
     }
 
-    /// A block begins.
+    /// Begins a block.
     fn begin(&mut self, strand: u32) -> Result<Reply, OutOfMemory>
         requires { IsTrue (fits self.old (event.Begin strand)) }
         ensures ok { OnOk result (self.new ≡ after_event self.old (event.Begin strand)) }
@@ -247,7 +247,7 @@ impl Core {
         Ok(Reply::Done)
     }
 
-    /// The block in which the strand stands ends.
+    /// Commits the block at the place of `strand`.
     fn commit(&mut self, strand: u32)
         requires { IsTrue (fits self.old (event.Commit strand)) }
         ensures { self.new ≡ after_event self.old (event.Commit strand) }
@@ -264,7 +264,7 @@ impl Core {
         close_row(&mut self.rows, strand, parent, PLAIN);
     }
 
-    /// What was done beneath the block in which the strand stands is undone, and the block is aborted.
+    /// Undoes what was done beneath the block at the place of `strand`, and aborts the block.
     fn roll(&mut self, strand: u32)
         requires { IsTrue (fits self.old (event.Roll strand)) }
         ensures { self.new ≡ after_event self.old (event.Roll strand) }
@@ -283,7 +283,7 @@ impl Core {
         roll_row(&mut self.rows, strand, block, parent, attempt);
     }
 
-    /// The strand has come to its end.
+    /// Finishes `strand`, as dead if `dead` is set.
     fn finish(&mut self, strand: u32, dead: bool) -> Result<Reply, OutOfMemory>
         requires { IsTrue (fits self.old (event.Finish strand dead)) }
         ensures ok { OnOk result (self.new ≡ after_event self.old (event.Finish strand dead)) }
@@ -295,7 +295,7 @@ impl Core {
         Ok(Reply::Done)
     }
 
-    /// The trace of a fork is cut there, or another fork is to be split before.
+    /// Cuts the trace of `fork` at the fork, or replies which fork has to be split first.
     fn split(&mut self, fork: u32) -> Result<Reply, OutOfMemory>
         requires { IsTrue (fits self.old (event.Split fork)) }
         ensures ok { OnOk result (self.new ≡ after_event self.old (event.Split fork)) }
@@ -317,7 +317,7 @@ impl Core {
         }
     }
 
-    /// The strands of a fork have finished, and the strand that forked goes on.
+    /// Joins `fork`, whose strands have finished. The strand that forked goes on.
     fn join(&mut self, fork: u32) -> Result<Reply, OutOfMemory>
         requires { IsTrue (fits self.old (event.Join fork)) }
         ensures ok { OnOk result (self.new ≡ after_event self.old (event.Join fork)) }
@@ -334,7 +334,7 @@ impl Core {
         Ok(Reply::Done)
     }
 
-    /// The core stops.
+    /// Stops the core.
     fn stop(&mut self, halt: Halt)
         requires { IsTrue (fits self.old (event.Stop halt)) }
         ensures { self.new ≡ after_event self.old (event.Stop halt) }
@@ -342,7 +342,7 @@ impl Core {
         self.halt = Some(halt);
     }
 
-    /// The strand outputs a value.
+    /// Outputs `value` for `strand`.
     fn output(&mut self, strand: u32, value: i64) -> Result<Reply, OutOfMemory>
         requires { IsTrue (fits self.old (event.Out strand value)) }
         ensures ok { OnOk result (self.new ≡ after_event self.old (event.Out strand value)) }
@@ -358,7 +358,7 @@ impl Core {
         Ok(Reply::Done)
     }
 
-    /// The block in which the strand stands is given up: a leaf tells what is to be put back, and so does the answer.
+    /// Gives up the block at the place of `strand`. A new leaf tells what has to be put back, and so does the reply.
     fn cancel(&mut self, strand: u32) -> Result<Reply, OutOfMemory>
         requires { IsTrue (fits self.old (event.Cancel strand)) }
         ensures ok { OnOk result (self.new ≡ after_event self.old (event.Cancel strand)) }
@@ -378,7 +378,7 @@ impl Core {
         Ok(Reply::Back(answer))
     }
 
-    /// An access that conflicts with none is made.
+    /// Makes an access that does not conflict.
     fn make_access(
         &mut self,
         strand: u32,
@@ -405,7 +405,7 @@ impl Core {
         Ok(Reply::Value(value))
     }
 
-    /// The newest access of a cell and a pending block above it, where a strand's access of the cell conflicts with it.
+    /// Returns the newest access of `cell` and a pending block above it, if an access of the cell by `strand` conflicts with it.
     fn barrier<K: Ledger, L: Ledger>(
         &self,
         strand: u32,
@@ -425,7 +425,7 @@ impl Core {
         }
     }
 
-    /// What is refused with an access: its victim, or else the access itself, which was tried so often by now.
+    /// Returns what is refused with an access: its victim, or without one the access itself, which by now was tried `tried` times.
     fn refused(&self, strand: u32, tried: u32, victim: Option<u32>) -> Refused
         requires { IfSome victim (λ block. IsTrue (is_pending self.now.machine.tree block)) }
         ensures victim { result.victim ≡ option_map_or (stamp_of self.now.machine.tree) victim 0 }
@@ -449,7 +449,7 @@ impl Core {
         }
     }
 
-    /// An access that conflicts with the newest one of its cell is refused, whatever it would write. No stamp is drawn.
+    /// Refuses an access that conflicts with the newest one of its cell, whatever it would write. Draws no stamp.
     fn refuse_access<K: Ledger, L: Ledger>(
         &mut self,
         strand: u32,
@@ -480,7 +480,7 @@ impl Core {
         Ok(Reply::Conflict(conflict_with(barrier, cell, asker, refused, chain)))
     }
 
-    /// An access is made, or refused where it conflicts with the newest one of its cell. What is looked at and compared is counted.
+    /// Makes an access, or refuses it if it conflicts with the newest one of its cell. Counts looks and comparisons.
     fn counted_access<K: Ledger, L: Ledger>(
         &mut self,
         blanks: (Blank, Blank),
@@ -503,7 +503,7 @@ impl Core {
         }
     }
 
-    /// An access is made, or refused where it conflicts with the newest one of its cell.
+    /// Makes an access, or refuses it if it conflicts with the newest one of its cell.
     fn access(&mut self, strand: u32, cell: u32, write: Option<i64>) -> Result<Reply, OutOfMemory>
         requires { IsTrue (fits self.old (event.Access strand cell write)) }
         ensures ok { OnOk result (self.new ≡ after_event self.old (event.Access strand cell write)) }
@@ -514,7 +514,7 @@ impl Core {
         self.counted_access::<Brand, Brand>(blanks, strand, cell, write)
     }
 
-    /// The strand forks, and waits for the join.
+    /// Forks `strand`, which then waits for the join.
     fn fork(&mut self, strand: u32) -> Result<Reply, OutOfMemory>
         requires { IsTrue (fits self.old (event.Fork strand)) }
         ensures ok { OnOk result (self.new ≡ after_event self.old (event.Fork strand)) }

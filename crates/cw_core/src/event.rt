@@ -11,7 +11,7 @@ pub enum Event {
     Begin {
         strand: u32,
     },
-    /// A read, or a write of a value.
+    /// A read if `write` is `None`, otherwise a write of its value.
     Access {
         strand: u32,
         cell: u32,
@@ -21,15 +21,15 @@ pub enum Event {
         strand: u32,
         value: i64,
     },
-    /// The innermost pending block of the strand is given up: what it wrote is to be put back, by writes. It stays pending.
+    /// Gives up the innermost pending block of the strand, which stays pending. Writes have to put back what it wrote.
     Cancel {
         strand: u32,
     },
-    /// The innermost pending block of the strand ends.
+    /// Commits the innermost pending block of the strand.
     Commit {
         strand: u32,
     },
-    /// The innermost pending block of the strand is undone and aborted.
+    /// Undoes and aborts the innermost pending block of the strand.
     Roll {
         strand: u32,
     },
@@ -37,11 +37,11 @@ pub enum Event {
         strand: u32,
         dead: bool,
     },
-    /// The trace of the fork is cut there: its right strand may run while its left one does.
+    /// Cuts the trace of the fork there. Its right strand may then run while its left one does.
     Split {
         fork: u32,
     },
-    /// Both strands of the fork have finished, and what forked goes on.
+    /// Joins a fork whose strands have finished. The strand that forked goes on.
     Join {
         fork: u32,
     },
@@ -50,17 +50,17 @@ pub enum Event {
     },
 }
 
-/// How an event is answered.
+/// The reply to an event.
 #[derive(Drop)]
 pub enum Reply {
     Done,
     Value(i64),
     Conflict(Conflict),
-    /// The cells that the block wrote, by rising number, each with its value from before the block came to it.
+    /// The cells that the block wrote, by rising number, each with its value from before the block first accessed it.
     Back(Seq<Back>),
     Forked { left: u32, right: u32, fork: u32 },
-    /// A fork that cannot be split.
+    /// The fork got no columns, so it cannot be split.
     Inline { left: u32, right: u32 },
-    /// Another fork is to be split before.
+    /// The fork `before` has to be split first.
     Early { before: u32 },
 }

@@ -7,15 +7,15 @@ use cw_base::{OutOfMemory, Seq};
 use cw_stack::Cell;
 use cw_tree::{Conflict, Kind, Mark};
 
-/// What stands in the way of an access: the newest access of its cell, and the stamp of a pending block above that.
+/// What bars an access: the newest access of its cell, and the stamp of a pending block above that access.
 #[derive(Clone, Copy, Drop)]
 pub(crate) struct Barrier {
     pub(crate) last: Mark,
     pub(crate) block: u64,
 }
 
-/// What was refused with an access: the block that has to fall, by its stamp, or, with the number 0, the access itself; which attempt that
-/// was, and in which strand.
+/// What is refused with an access: the block that has to fall, by its begin stamp, or the access itself if `victim` is 0. Also the
+/// number of its attempt, and its strand.
 #[derive(Clone, Copy, Drop)]
 pub(crate) struct Refused {
     pub(crate) victim: u64,
@@ -23,7 +23,7 @@ pub(crate) struct Refused {
     pub(crate) strand: u32,
 }
 
-/// The conflict of a refused access.
+/// Returns the conflict of a refused access.
 pub(crate) fn conflict_with(
     barrier: Barrier,
     cell: u32,
@@ -44,7 +44,7 @@ pub(crate) fn conflict_with(
     }
 }
 
-/// The node of an access that finds a value.
+/// Returns the kind of the node for an access that finds `value`.
 pub(crate) fn access_kind(cell: u32, write: Option<i64>, value: i64) -> Kind
     ensures { result ≡ stacks.access_kind cell write value }
 {
@@ -54,7 +54,7 @@ pub(crate) fn access_kind(cell: u32, write: Option<i64>, value: i64) -> Kind
     }
 }
 
-/// Makes room for one more entry of a cell.
+/// Makes room for one more entry of `cell`.
 pub(crate) fn reserve_entry(cells: &mut Vec<Cell>, cell: u32) -> Result<(), OutOfMemory>
     requires { cell < vec_len cells.old }
     ensures room { OnOk result (IfSome (slice_get cells.new.items cell) (λ c. 0 < c.room)) }
@@ -63,7 +63,7 @@ pub(crate) fn reserve_entry(cells: &mut Vec<Cell>, cell: u32) -> Result<(), OutO
     cells[cell as usize].reserve()
 }
 
-/// An access of a cell is made, and answers the cell's value after it.
+/// Makes an access of `cell`, and returns the cell's value after it.
 pub(crate) fn put_entry(
     cells: &mut Vec<Cell>,
     cell: u32,

@@ -1,8 +1,8 @@
-//! The core: the computation tree, traces, query and cells of strands that run at the same time, on one thread. Each event is a run of the
-//! open machine.
-//! Stands on `cw_tree`, `cw_trace`, `cw_xconf`, `cw_stack` and `cw_open`.
-//! Contracts cite `specs/State.antt` (what is seen of a core), `specs/Events.antt` (which events fit, the steps that each stands for, and
-//! how it is answered), `specs/Laws.antt` (what is true of a core between events) and `specs/Closing.antt` (what it leaves);
+//! The core: the computation tree, traces, query and cells of strands that run at the same time, on one thread. Each event is a run
+//! of the open machine.
+//! Use it to run strands event by event: `fits` tells whether an event may be made, `step` makes it, `close` returns what is left.
+//! Contracts cite `specs/State.antt` (what a caller sees), `specs/Events.antt` (which events fit, the steps that each stands for,
+//! and the replies), `specs/Laws.antt` (what is true between events) and `specs/Closing.antt` (what a core leaves).
 //! `specs/Worked.antt` tries them.
 #![tactic(auto)]
 
@@ -20,28 +20,29 @@ mod undo;
 pub use cores::Core;
 pub use event::{Event, Reply};
 
-/// Each event that fits is a run of the open machine by just the steps that it stands for, after which the core stands for what they lead
-/// to, and its tier for the tree; so is each list of events that fit.
+/// Law: each event that fits is a run of the open machine by exactly the steps that it stands for. The core then represents the
+/// machine's state, and its tier the tree. The same holds for each list of events that fit.
 pub fn events_are_runs()
     ensures start { StartsAreCores }
     ensures events { EventsAreRuns }
     ensures lists { ListsAreRuns }
 {}
 
-/// What follows of each core: its cells' lists are chains of just the live accesses, and the query's premise holds of each strand that may
-/// step.
+/// Law: in each core the lists of cells are chains of exactly the live accesses, and the query's premise holds for each strand that
+/// may step.
 pub fn cores_stand()
     ensures chains { CellsAreChains }
     ensures goes_on { StrandsGoOn }
 {}
 
-/// A split is early exactly where a fork outward in the trace of its fork was neither split nor joined, and then names the next one outward.
+/// Law: a split is early exactly if a fork outward in the trace of its fork was neither split nor joined. The reply names the next
+/// one outward.
 pub fn splits_are_answered()
     ensures early { SplitsAreAnswered }
 {}
 
-/// A split changes no later answer but that of a split and the block that a conflict names: lists of events that differ in their splits alone
-/// have the same other answers.
+/// Law: a split changes no later replies except those to splits, and the block that a conflict names. Lists of events that differ
+/// only in their splits have the same other replies.
 pub fn splits_change_no_answer()
     ensures splits { SplitsChangeNothing }
     ensures answers { AlikeAnswer }
@@ -49,7 +50,7 @@ pub fn splits_change_no_answer()
     ensures lists { SplitsChangeNoAnswer }
 {}
 
-/// What the definitions say of lists of events.
+/// Computed examples: what the definitions say of lists of events.
 pub fn worked_events()
     ensures splits { Splits }
     ensures rolls { Rolls }

@@ -9,14 +9,14 @@ use cw_tree::{BlockState, Kind, Node, Tree};
 use std::alloc::Global;
 use std::marker::Model;
 
-/// Of a node its last child, and the child of its parent before it.
+/// The links of a node: its last child, and the child of its parent before it.
 #[derive(Clone, Copy, Drop)]
 pub(crate) struct Link {
     pub(crate) last: Option<u32>,
     pub(crate) elder: Option<u32>,
 }
 
-/// A computation tree with links from each node to its children, the last first.
+/// A computation tree with links from each node to its children, from the last one on.
 #[derive(Drop)]
 pub(crate) struct Linked {
     tree: Tree,
@@ -35,7 +35,7 @@ impl Model for Linked {
     ghost invariant = { λ t. AreLinks t.tree t.links.items };
 }
 
-/// A node comes last among the children of another.
+/// Makes `node` the last child of `parent`.
 fn put_last(links: &mut Vec<Link>, parent: u32, node: u32)
     requires parent { parent < vec_len links.old }
     requires room { vec_len links.old < vec_capacity links.old }
@@ -51,7 +51,7 @@ fn put_last(links: &mut Vec<Link>, parent: u32, node: u32)
 impl Linked {
     ghost use Rattle.cw_tree.specs.declared.node.Kind.TheVariants.{Strand};
 
-    /// The tree of the root strand alone.
+    /// Returns the tree with the root strand alone.
     pub(crate) fn new(alloc: Global) -> Result<Linked, OutOfMemory>
         ensures { IfOk result (λ t. t ≡ fresh_node 0 Strand 0 ∷ []) }
     {
@@ -66,14 +66,14 @@ impl Linked {
         })
     }
 
-    /// The tree.
+    /// Returns the tree.
     pub(crate) fn tree(&self) -> &Tree
         ensures { result.now ≡ self.now }
     {
         &self.tree
     }
 
-    /// The node with a number.
+    /// Returns node `n`.
     pub(crate) fn node(&self, n: u32) -> &Node
         requires { n < length self.now }
         ensures { slice_get self.now n ≡ Some result.now }
@@ -81,7 +81,7 @@ impl Linked {
         self.tree.node(n)
     }
 
-    /// The tree, and its links.
+    /// Returns the tree and its links.
     pub(crate) fn apart(self) -> (Tree, Vec<Link>)
         ensures tree { result.0 ≡ self }
         ensures links { AreLinks self result.1.items }
@@ -89,7 +89,7 @@ impl Linked {
         (self.tree, self.links)
     }
 
-    /// A tree with its links.
+    /// Returns a tree with its links.
     pub(crate) fn of_parts(tree: Tree, links: Vec<Link>) -> Linked
         requires { AreLinks tree links.items }
         ensures { result ≡ tree }
@@ -97,7 +97,7 @@ impl Linked {
         Linked { tree, links }
     }
 
-    /// The parent of a node, of the root itself.
+    /// Returns the parent of node `n`. The root is its own parent.
     pub(crate) fn parent(&self, n: u32) -> u32
         requires { n < length self.now }
         ensures parent { result ≡ parent_of self.now n }
@@ -107,7 +107,7 @@ impl Linked {
         self.tree.parent(n)
     }
 
-    /// Whether a node is a block that is under way.
+    /// Returns whether node `n` is a pending block.
     pub(crate) fn is_pending(&self, n: u32) -> bool
         requires { n < length self.now }
         ensures { result ≡ is_pending self.now n }
@@ -115,7 +115,7 @@ impl Linked {
         self.tree.is_pending(n)
     }
 
-    /// Adds a node beneath a parent, and answers its number.
+    /// Adds a node beneath `parent`, and returns its number.
     pub(crate) fn add(&mut self, parent: u32, kind: Kind, stamp: u64) -> Result<u32, OutOfMemory>
         requires { parent < length self.old }
         ensures number { IfOk result (λ n. n ≡ length self.old) }
@@ -131,7 +131,8 @@ impl Linked {
         Ok(node)
     }
 
-    /// Adds a fork beneath a parent, with its left and its right strand, or nothing. Answers the number of the fork.
+    /// Adds a fork beneath `parent`, with its left and its right strand, and returns the number of the fork. On an error it adds
+    /// nothing.
     pub(crate) fn fork(&mut self, parent: u32, stamp: u64) -> Result<u32, OutOfMemory>
         requires { parent < length self.old }
         ensures number { IfOk result (λ n. n ≡ length self.old) }
@@ -149,7 +150,7 @@ impl Linked {
         Ok(fork)
     }
 
-    /// Closes a block: how it ended, and the stamp of its end.
+    /// Closes `block` with the given state, at the stamp `end`.
     pub(crate) fn close(&mut self, block: u32, state: BlockState, end: u64)
         requires { IsTrue (is_block self.old block) }
         ensures { self.new ≡ closed self.old block state end }
@@ -157,8 +158,9 @@ impl Linked {
         self.tree.close(block, state, end);
     }
 
-    /// Where a walk of what stands beneath a block goes on from a node: down to its last child, or, where all beneath it is done, to the child
-    /// before it or up to its parent. What stands beneath an aborted block is left out.
+    /// Returns where a walk beneath a block goes on from `node`. If it came `down` to the node, it goes to the last child. If all
+    /// beneath the node is done, it goes to the child before it or up to its parent. It leaves out what is beneath an aborted
+    /// block.
     pub(crate) fn next_in_walk(&self, node: u32, down: bool) -> (u32, bool)
         requires { node < length self.now }
         ensures { result ≡ next_in_walk self.now node down }

@@ -1,24 +1,24 @@
 ghost use Rattle.std.specs.Prelude.{◌≡◌, ◌∷◌, ◌++◌, [], ◌<◌, ◌≤◌, ◌+◌, ◌^◌, Some, None, vec_len, vec_capacity};
 ghost use Rattle.cw_core.specs.Kept as rows;
 
-/// What is known of a node since it was made.
+/// What is fixed when a node is made.
 #[derive(Clone, Copy, Drop)]
 pub(crate) struct Made {
-    /// The strand in which it stands.
+    /// The strand that the node belongs to.
     pub(crate) strand: u32,
-    /// Of a strand its column, of a fork that of its left strand.
+    /// For a strand: its column. For a fork: the column of its left strand.
     pub(crate) column: u32,
-    /// Of a right strand the left one.
+    /// For a right strand: the left one.
     pub(crate) elder: Option<u32>,
-    /// Of a fork its strands, and whether they have columns.
+    /// For a fork: its strands, and whether they have columns.
     pub(crate) left: u32,
     pub(crate) right: u32,
     pub(crate) has_columns: bool,
-    /// Of a block the number of its attempt.
+    /// For a block: the number of its attempt.
     pub(crate) attempt: u32,
 }
 
-/// How a node's children end: with so many blocks that were rolled back, or so many refused accesses of one cell.
+/// How the children of a node end: with `aborted` blocks that were rolled back, or with `tried` refused accesses of `cell`.
 #[derive(Clone, Copy, Drop)]
 pub(crate) struct Tail {
     pub(crate) started: bool,
@@ -38,20 +38,20 @@ pub(crate) const PLAIN: Tail = Tail {
 /// What has become of a node.
 #[derive(Clone, Copy, Drop)]
 pub(crate) struct Now {
-    /// Of a strand where its next node goes.
+    /// For a strand: where its next node goes.
     pub(crate) place: u32,
-    /// A fork that it made was not joined.
+    /// Whether a fork that the strand made is not joined.
     pub(crate) waits: bool,
     pub(crate) finished: bool,
     pub(crate) dead: bool,
-    /// Of a strand the outermost pending block that has to fall for an access refused beneath it.
+    /// For a strand: the outermost pending block that has to fall for an access refused beneath it.
     pub(crate) victim: Option<u32>,
-    /// Of a fork whether it was split and joined.
+    /// For a fork: whether it was split, and whether it was joined.
     pub(crate) split: bool,
     pub(crate) joined: bool,
 }
 
-/// What is kept for a node.
+/// What the core keeps for a node.
 #[derive(Clone, Copy, Drop)]
 pub(crate) struct Row {
     pub(crate) made: Made,
@@ -59,7 +59,8 @@ pub(crate) struct Row {
     pub(crate) now: Now,
 }
 
-/// The row of a new node of a strand that is neither a strand nor a fork; of a block the number of its attempt.
+/// Returns the row of a new node of `strand` that is neither a strand nor a fork. For a block, `attempt` is the number of its
+/// attempt.
 pub(crate) fn leaf_row(strand: u32, attempt: u32) -> Row
     ensures { result ≡ rows.leaf_row strand attempt }
 {
@@ -91,7 +92,7 @@ pub(crate) fn leaf_row(strand: u32, attempt: u32) -> Row
     }
 }
 
-/// A node came last among the children of a place, and its strand goes on at the next one.
+/// Adds a node as the last child of `place`. Its strand goes on at `next`.
 pub(crate) fn put_leaf(
     table: &mut Vec<Row>,
     strand: u32,
@@ -112,7 +113,7 @@ pub(crate) fn put_leaf(
     own.now.place = next;
 }
 
-/// The children end with one more refused access of a cell.
+/// Returns the tail after one more refused access of `cell`.
 pub(crate) fn tried_tail(cell: u32, tail: Tail) -> Tail
     requires { tail.tried + 1 < 2 ^ 32 }
     ensures { result ≡ rows.tried_tail cell tail }
@@ -126,7 +127,7 @@ pub(crate) fn tried_tail(cell: u32, tail: Tail) -> Tail
     }
 }
 
-/// A refused access came last among the children of a place, and a block of its strand may have to fall for it.
+/// Adds a refused access as the last child of `place`. A block may have to fall for it: `victim`.
 pub(crate) fn put_tried(
     table: &mut Vec<Row>,
     strand: u32,
@@ -146,7 +147,7 @@ pub(crate) fn put_tried(
     own.now.victim = victim;
 }
 
-/// A strand has finished.
+/// Marks a strand as finished.
 pub(crate) fn finish_row(table: &mut Vec<Row>, strand: u32, dead: bool)
     requires { strand < vec_len table.old }
     ensures { table.new.items ≡ rows.with_row_changed (rows.with_finished dead) strand table.old.items }
@@ -156,7 +157,7 @@ pub(crate) fn finish_row(table: &mut Vec<Row>, strand: u32, dead: bool)
     own.now.dead = dead;
 }
 
-/// A fork was split.
+/// Marks a fork as split.
 pub(crate) fn split_row(table: &mut Vec<Row>, fork: u32)
     requires { fork < vec_len table.old }
     ensures { table.new.items ≡ rows.with_row_changed rows.with_split fork table.old.items }
@@ -165,7 +166,7 @@ pub(crate) fn split_row(table: &mut Vec<Row>, fork: u32)
     row.now.split = true;
 }
 
-/// The smaller of two numbers, or the one that is there.
+/// Returns the smaller of two numbers, or the only one.
 pub(crate) fn least(a: Option<u32>, b: Option<u32>) -> Option<u32>
     ensures { result ≡ rows.least a b }
 {
@@ -176,7 +177,7 @@ pub(crate) fn least(a: Option<u32>, b: Option<u32>) -> Option<u32>
     }
 }
 
-/// A fork was joined, and the strand that forked goes on.
+/// Marks a fork as joined. The strand that forked goes on.
 pub(crate) fn join_rows(table: &mut Vec<Row>, fork: u32, strand: u32, victim: Option<u32>)
     requires fork { fork < vec_len table.old }
     requires strand { strand < vec_len table.old }
@@ -189,7 +190,7 @@ pub(crate) fn join_rows(table: &mut Vec<Row>, fork: u32, strand: u32, victim: Op
     row.now.joined = true;
 }
 
-/// The block in which a strand stood was closed: so its parent's children end now, and the strand goes on there.
+/// Records that the block at the place of `strand` was closed: it is now the last child of `parent`, where the strand goes on.
 pub(crate) fn close_row(table: &mut Vec<Row>, strand: u32, parent: u32, tail: Tail)
     requires strand { strand < vec_len table.old }
     requires parent { parent < vec_len table.old }
@@ -201,7 +202,7 @@ pub(crate) fn close_row(table: &mut Vec<Row>, strand: u32, parent: u32, tail: Ta
     own.now.place = parent;
 }
 
-/// The row of a new fork of a strand.
+/// Returns the row of a new fork of `strand`.
 fn fork_row(strand: u32, column: u32, left: u32, right: u32, has_columns: bool) -> Row
     ensures { result ≡ rows.fork_row strand column left right has_columns }
 {
@@ -214,7 +215,7 @@ fn fork_row(strand: u32, column: u32, left: u32, right: u32, has_columns: bool) 
     row
 }
 
-/// The row of a new strand.
+/// Returns the row of a new strand.
 fn strand_row(strand: u32, column: u32, elder: Option<u32>) -> Row
     ensures { result ≡ rows.strand_row strand column elder }
 {
@@ -225,7 +226,7 @@ fn strand_row(strand: u32, column: u32, elder: Option<u32>) -> Row
     row
 }
 
-/// The rows of a fork and its strands.
+/// Adds the rows of a fork and its strands.
 fn push_fork(table: &mut Vec<Row>, strand: u32, fork: u32, columns: (u32, u32), has_columns: bool)
     requires room { vec_len table.old + 3 ≤ vec_capacity table.old }
     requires few { fork + 3 < 2 ^ 32 }
@@ -237,7 +238,7 @@ fn push_fork(table: &mut Vec<Row>, strand: u32, fork: u32, columns: (u32, u32), 
     table.push_reserved(strand_row(right, columns.1, Some(left)));
 }
 
-/// A strand forks at a place, and waits.
+/// Adds a fork at `place`. Its strand waits.
 pub(crate) fn put_fork(
     table: &mut Vec<Row>,
     strand: u32,
@@ -259,7 +260,7 @@ pub(crate) fn put_fork(
     own.now.waits = true;
 }
 
-/// A number but this one.
+/// Returns `number`, unless it is `block`.
 fn without(block: u32, number: Option<u32>) -> Option<u32>
     ensures { result ≡ rows.without_number block number }
 {
@@ -269,8 +270,8 @@ fn without(block: u32, number: Option<u32>) -> Option<u32>
     }
 }
 
-/// The block in which a strand stood was rolled back, at its attempt of this number: it is what its parent's children end with, and falls
-/// no more, and the strand goes on at the parent.
+/// Records that `block`, at the place of `strand`, was rolled back in attempt `attempt`: it is now the last child of `parent`,
+/// where the strand goes on, and it no longer has to fall.
 pub(crate) fn roll_row(table: &mut Vec<Row>, strand: u32, block: u32, parent: u32, attempt: u32)
     requires strand { strand < vec_len table.old }
     requires parent { parent < vec_len table.old }

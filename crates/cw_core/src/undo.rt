@@ -7,7 +7,7 @@ use crate::linked::Linked;
 use cw_stack::Cell;
 use cw_tree::{BlockState, Kind, Node};
 
-/// An access with a stamp is undone, with all that came after it, if it was not yet.
+/// Undoes the access with `stamp` and all that came after it, unless that was done before.
 fn cut(cell: &mut Cell, stamp: u64)
     requires whole { cell.old.cleaned ≡ 0 }
     requires there { HasIfLater stamp cell.old.entries }
@@ -24,7 +24,7 @@ fn cut(cell: &mut Cell, stamp: u64)
     }
 }
 
-/// The cell that a node reads or writes, if it is an access.
+/// Returns the cell that `node` reads or writes, if it is an access.
 fn accessed(node: &Node) -> Option<u32>
     ensures { result ≡ accessed node.now.kind }
 {
@@ -34,7 +34,7 @@ fn accessed(node: &Node) -> Option<u32>
     }
 }
 
-/// An access is undone in its cell, with all accesses after it, if it was not yet.
+/// Undoes the access `node` in its cell, with all accesses after it, unless that was done before.
 fn undo_access(tree: &Linked, cells: &mut Vec<Cell>, node: u32)
     requires node { node < length tree.now }
     requires cells { MayCut tree.now node cells.old.items }
@@ -46,7 +46,7 @@ fn undo_access(tree: &Linked, cells: &mut Vec<Cell>, node: u32)
     }
 }
 
-/// All that was done beneath a pending block is undone, in each cell that was touched: a walk of what stands beneath it.
+/// Undoes all that was done beneath a pending block, in each cell that was touched. Walks all nodes beneath the block.
 pub(crate) fn undo(tree: &Linked, cells: &mut Vec<Cell>, block: u32)
     requires block { block < length tree.now }
     requires cells { MayUndo tree.now block cells.old.items }
@@ -64,7 +64,7 @@ pub(crate) fn undo(tree: &Linked, cells: &mut Vec<Cell>, block: u32)
     }
 }
 
-/// A block is aborted, where nothing is left in the cells of what was done beneath it: they are asked for by the condition alone.
+/// Aborts `block`, once the cells have nothing left of what was done beneath it. `_cells` is there for that condition alone.
 pub(crate) fn abort(tree: &mut Linked, _cells: &Vec<Cell>, block: u32, end: u64)
     requires block { IsTrue (is_block tree.old block) }
     requires undone { NoneBeneath tree.old block _cells.now.items }

@@ -10,7 +10,7 @@ use cw_stack::Cell;
 use cw_tree::{Closed, Conflict, Entry};
 use std::alloc::Global;
 
-/// The entries of each cell.
+/// Returns a copy of the entries of each cell.
 fn journals(alloc: Global, cells: &[Cell]) -> Result<Seq<Seq<Entry>>, OutOfMemory>
     ensures entries { IfOk result (λ js. js ≡ map (λ c. c.entries) cells.now) }
     ensures steps { OnOk result ((i : ℕ) (c : CellParts) → slice_get cells.now i ≡ Some c → AreSteps c.first c.entries) }
@@ -23,7 +23,7 @@ fn journals(alloc: Global, cells: &[Cell]) -> Result<Seq<Seq<Entry>>, OutOfMemor
     Ok(Seq::from_vec(journals))
 }
 
-/// The same conflict once more.
+/// Returns a copy of `conflict`.
 fn copy(alloc: Global, conflict: &Conflict) -> Result<Conflict, OutOfMemory>
     ensures { IfOk result (λ c. c ≡ conflict.now) }
 {
@@ -39,7 +39,7 @@ fn copy(alloc: Global, conflict: &Conflict) -> Result<Conflict, OutOfMemory>
     })
 }
 
-/// The same conflicts once more.
+/// Returns a copy of `conflicts`.
 fn copies(alloc: Global, conflicts: &[Conflict]) -> Result<Seq<Conflict>, OutOfMemory>
     ensures { IfOk result (λ cs. cs ≡ conflicts.now) }
 {
@@ -51,8 +51,8 @@ fn copies(alloc: Global, conflicts: &[Conflict]) -> Result<Seq<Conflict>, OutOfM
 }
 
 impl Core {
-    /// What the core leaves: its tree in depth-first order, each cell's live accesses, its conflicts as the tree lists their askers, and why
-    /// it stopped. Without the memory for it the core is handed back as it was.
+    /// Returns what the core leaves: its tree in depth-first order, the live accesses of each cell, its conflicts in the order in
+    /// which the tree lists their askers, and why it stopped. If out of memory, returns the core as it was.
     pub fn close(mut self) -> Result<Closed, (Core, OutOfMemory)>
         ensures tree { IfOk result (λ c. c.tree ≡ in_order self.machine.tree) }
         ensures journals { IfOk result (λ c. c.journals ≡ journals_of self) }

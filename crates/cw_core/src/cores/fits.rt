@@ -13,16 +13,16 @@ use crate::cores::Core;
 use crate::row::Row;
 use cw_tree::Halt;
 
-/// Whether a fork has columns, and was neither split nor joined, by its row.
+/// Returns whether the fork of this row has columns, and was neither split nor joined.
 fn is_whole(row: Row) -> bool
     ensures { result ≡ (row.made.has_columns && not row.now.split && not row.now.joined) }
 {
     row.made.has_columns && !row.now.split && !row.now.joined
 }
 
-// Each looks at a few rows, however large the tree is.
+// Each call looks at a few rows, however large the tree is.
 impl Core {
-    /// Whether an event may be made now. Takes no memory.
+    /// Returns whether `event` may be made now. Does not allocate.
     pub fn fits(&self, event: &Event) -> bool
         ensures { result ≡ fits self.now event.now }
     {
@@ -35,7 +35,7 @@ impl Core {
         self.fits_now(*event)
     }
 
-    /// Whether it may, where nothing has stopped and no budget is spent.
+    /// Returns whether `event` may be made, given that nothing has stopped and no budget is spent.
     fn fits_now(&self, event: Event) -> bool
         requires { self.now.machine.stopped ≡ [] }
         ensures { result ≡ fits_now self.now event }
@@ -80,7 +80,7 @@ impl Core {
         (node as usize) < self.rows.len() && self.tree.tree().is_fork(node)
     }
 
-    /// Whether a strand runs, where nothing has stopped.
+    /// Returns whether `strand` runs, given that nothing has stopped.
     fn is_running(&self, strand: u32) -> bool
         requires { self.now.machine.stopped ≡ [] }
         ensures { result ≡ is_running self.now.machine strand }
@@ -92,7 +92,7 @@ impl Core {
         !now.finished && !now.waits
     }
 
-    /// Whether a strand goes on with its own work.
+    /// Returns whether `strand` goes on with its own work.
     fn goes_on(&self, strand: u32) -> bool
         requires { self.now.machine.stopped ≡ [] }
         ensures { result ≡ (is_free self.now.machine strand && not (waits_for_left self.now strand)) }
@@ -115,7 +115,7 @@ impl Core {
         self.goes_on(strand) && self.in_block(strand)
     }
 
-    /// Whether a strand has to roll back the block in which it stands.
+    /// Returns whether `strand` has to roll back the block at its place.
     fn rolls_back(&self, strand: u32) -> bool
         requires { self.now.machine.stopped ≡ [] }
         ensures { result ≡ rolls_back self.now.machine strand }
@@ -127,7 +127,8 @@ impl Core {
         self.in_block(strand) && self.is_dying(strand)
     }
 
-    /// Whether a strand may come to its end: dead where it is dying, and also where it has made no step and its left one died.
+    /// Returns whether `strand` may finish. It may finish as dead if it is dying, and also if it has made no step and its left
+    /// strand died.
     fn may_finish(&self, strand: u32, dead: bool) -> bool
         requires { self.now.machine.stopped ≡ [] }
         ensures { result ≡ fits_now self.now (event.Finish strand dead) }
@@ -163,7 +164,7 @@ impl Core {
         is_whole(row) && self.is_unstarted(row.made.right)
     }
 
-    /// Whether a strand has made no step.
+    /// Returns whether `strand` has made no step.
     fn is_unstarted(&self, strand: u32) -> bool
         requires { strand < length self.now.machine.tree }
         ensures { result ≡ ((length (children self.now.machine.tree strand) == 0) && not (has_finished self.now.machine strand)) }

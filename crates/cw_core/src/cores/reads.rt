@@ -6,9 +6,9 @@ ghost use Rattle.cw_core.specs.State.{is_split, spent};
 
 use crate::cores::Core;
 
-// Each looks at one row, or at one thing that is kept beside the rows, however large the tree is.
+// Each call looks at one row, or at one field beside the rows, however large the tree is.
 impl Core {
-    /// The strand in which a node stands.
+    /// Returns the strand that `node` belongs to.
     pub fn strand_of(&self, node: u32) -> u32
         requires { node < length self.now.machine.tree }
         ensures { result ≡ strand_of self.now.machine.tree node }
@@ -16,7 +16,8 @@ impl Core {
         self.row(node).made.strand
     }
 
-    /// The node in which a strand's next node goes: the innermost pending block begun in it, or else the strand itself.
+    /// Returns the node beneath which the next node of `strand` goes: the innermost pending block begun in it, or otherwise the
+    /// strand itself.
     pub fn place(&self, strand: u32) -> u32
         requires { IsTrue (is_strand self.now.machine.tree strand) }
         ensures { result ≡ place self.now.machine.tree strand }
@@ -24,7 +25,7 @@ impl Core {
         self.row(strand).now.place
     }
 
-    /// Whether the innermost pending block in which a strand stands was begun in it.
+    /// Returns whether the innermost pending block around `strand` was begun in it.
     pub fn in_block(&self, strand: u32) -> bool
         requires { IsTrue (is_strand self.now.machine.tree strand) }
         ensures { result ≡ in_block self.now.machine strand }
@@ -32,7 +33,7 @@ impl Core {
         self.row(strand).now.place != strand
     }
 
-    /// Whether a strand that runs has to go back: a refused access beneath it has a victim that is still pending.
+    /// Returns whether a running strand has to go back: an access refused beneath it has a victim that is still pending.
     pub fn is_dying(&self, strand: u32) -> bool
         requires { IsTrue (is_running self.now.machine strand) }
         ensures { result ≡ is_dying self.now.machine strand }
@@ -41,7 +42,7 @@ impl Core {
         self.row(strand).now.victim.is_some()
     }
 
-    /// Whether a strand has come to its end.
+    /// Returns whether a strand has finished.
     pub fn has_finished(&self, node: u32) -> bool
         requires { node < length self.now.machine.tree }
         ensures { result ≡ has_finished self.now.machine node }
@@ -49,7 +50,7 @@ impl Core {
         self.row(node).now.finished
     }
 
-    /// Whether a fork is split.
+    /// Returns whether `fork` is split.
     pub fn is_split(&self, fork: u32) -> bool
         requires { IsTrue (is_fork self.now.machine.tree fork) }
         ensures { result ≡ is_split self.now fork }
@@ -57,7 +58,7 @@ impl Core {
         self.row(fork).now.split
     }
 
-    /// The strand that has spent its budget, if one has: that of the block or the access whose last attempt was refused.
+    /// Returns the strand that has spent its budget, if one has: the strand of the block or access whose last attempt was refused.
     pub fn spent(&self) -> Option<u32>
         ensures { result ≡ spent self.now }
     {

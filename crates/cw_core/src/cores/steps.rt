@@ -8,14 +8,14 @@ use crate::{Event, Reply};
 use cw_base::OutOfMemory;
 
 impl Core {
-    /// Makes an event that fits, and answers it.
+    /// Makes an event that fits, and returns the reply.
     pub fn step(&mut self, event: Event) -> Result<Reply, OutOfMemory>
         requires { IsTrue (fits self.old event) }
         ensures ok { OnOk result (self.new ≡ after_event self.old event) }
         ensures reply { IfOk result (λ r. r ≡ reply_to self.old event) }
         ensures err { OnErr result (self.new ≡ self.old) }
         ensures sure { IsTrue (takes_none event) → IsOk result }
-        // the open machine makes a run of just the steps that the event stands for, and the core stands for what they lead to
+        // the open machine makes exactly the steps that the event stands for, and the core then represents its state
         ensures run { IsRun at_once self.old.machine (steps_of self.old event) }
         ensures stands { IsCore self.new.machine.first self.new }
         ensures chains { HasChains self.new }
