@@ -1,5 +1,5 @@
--- Small runs with two strands: a fork is split, both strands step in blocks at the same time, and the fork is joined and merged; or it is not
--- stolen. And what would be said of strands that are not ready, and is false.
+-- Small runs with two strands. A fork is split, both strands step in blocks at the same time, and the fork is joined and merged; or
+-- the fork is not stolen. Also claims about strands that are not ready, which are false.
 use Rattle.std.specs.Prelude.{◌≡◌, ℕ, ◌&&◌, not, true, false, IsTrue, List, [], ◌∷◌, None}
 use Rattle.cw_tree.specs.Newest.{newest}
 use Rattle.cw_trace.specs.Columns.{before_split}
@@ -23,7 +23,7 @@ no_words = 0 ∷ 0 ∷ 0 ∷ 0 ∷ 0 ∷ []
 abbrev pub alone : SharedMoment
 alone = first_shared [] 5 no_words
 
--- the moment after steps of the machine, one after another
+-- the moment after these steps of the machine, one after another
 abbrev pub after_these : SharedMoment → List Step → SharedMoment
 after_these s [] = s
 after_these s (e ∷ es) = after_these (after_shared s e) es
@@ -40,7 +40,7 @@ stolen = after_split forked_once 1
 abbrev pub in_blocks : SharedMoment
 in_blocks = after_these stolen (begins 2 2 ∷ begins 3 3 ∷ [])
 
--- the left strand gives its block up
+-- the left strand gives up its block
 abbrev pub given_up : SharedMoment
 given_up = after_shared in_blocks (cancels 2 4)
 
@@ -56,24 +56,24 @@ pub record TwoStrands : Type 0 where
   -- until the fork is split the right strand is unready
   pub forked : RunsTogether any_rules [] forked_once
   pub left_first : (goes_on forked_once 2 ≡ true) × (goes_on forked_once 3 ≡ false) × (is_running forked_once.machine 3 ≡ true)
-  -- then both go on, in traces of their own and with words of their own
+  -- then both strands go on, in traces of their own and with words of their own
   pub blocks : RunsTogether any_rules [] in_blocks
   pub hands : (goes_on in_blocks 2 ≡ true) × (goes_on in_blocks 3 ≡ true) × (goes_on in_blocks 0 ≡ false)
   pub traces : (trace_at in_blocks.columns in_blocks.machine.tree (place_at in_blocks 2) ≡ 1) × (trace_at in_blocks.columns in_blocks.machine.tree (place_at in_blocks 3) ≡ 2)
-  -- the right one draws 3 for its begin before the left one begins at 2
+  -- the right strand draws 3 for its begin before the left one begins at 2
   pub drawn : IsLater stolen.columns stolen.machine.tree 3 3
   pub still : IsLater (after_shared stolen (begins 2 2)).columns (after_shared stolen (begins 2 2)).machine.tree 3 3
   pub words : in_blocks.words ≡ 2 ∷ 0 ∷ 3 ∷ 0 ∷ 0 ∷ []
-  -- where the left one gives its block up, both go on in their blocks
+  -- if the left strand gives up its block, both go on in their blocks
   pub cancelled : RunsTogether any_rules [] given_up
   pub still_hands : (goes_on given_up 2 ≡ true) × (goes_on given_up 3 ≡ true)
   pub still_words : given_up.words ≡ in_blocks.words
-  -- once the fork is joined main runs, and does not go on: the merge is owed, and the fork is open yet
+  -- once the fork is joined main runs, but does not go on: the merge is owed, and the fork is still open
   pub joined : RunsTogether any_rules [] joined_once
   pub owed : (is_owed joined_once 1 ≡ true) × (is_open_yet joined_once 1 ≡ true)
   pub main_waits : (is_running joined_once.machine 0 ≡ true) × (goes_on joined_once 0 ≡ false)
   pub not_yet : GoesOnAt (moment_of joined_once) 0 → ⊥
-  -- after the merge it goes on, and begins a block
+  -- after the merge main goes on, and begins a block
   pub merged : RunsTogether any_rules [] put_together
   pub main_goes_on : goes_on put_together 0 ≡ true
   pub begun : RunsTogether any_rules [] (after_shared put_together (begins 0 6))
@@ -81,11 +81,11 @@ pub record TwoStrands : Type 0 where
 
 -- ## Forks that are not stolen
 
--- both strands finish there, the right one once the left one has, and the fork is joined
+-- both strands finish, the right one after the left one, and the fork is joined
 abbrev pub rejoined : SharedMoment → SharedMoment
 rejoined s = after_these s (finishes 2 false ∷ finishes 3 false ∷ joins 1 ∷ [])
 
--- there are no columns left for a fork
+-- no columns are left for a fork
 abbrev pub inline_once : SharedMoment
 inline_once = after_shared (first_shared [] 1 no_words) (forks 0 1)
 
@@ -94,7 +94,7 @@ pub record NoneOwed : Type 0 where
   pub whole : RunsTogether any_rules [] (rejoined forked_once)
   pub whole_joins : (rejoined forked_once).joins ≡ 1 ∷ []
   pub whole_goes : goes_on (rejoined forked_once) 0 ≡ true
-  -- and so it does at a fork without
+  -- the same without columns
   pub inline : RunsTogether any_rules [] (rejoined inline_once)
   pub inline_columns : has_columns inline_once 1 ≡ false
   pub inline_waits : (goes_on inline_once 2 ≡ true) × (goes_on inline_once 3 ≡ false)
@@ -103,15 +103,15 @@ pub record NoneOwed : Type 0 where
 
 -- ## What is false
 
--- that a strand goes on as soon as the machine has joined its fork
+-- a strand goes on as soon as the machine has joined its fork
 abbrev pub JoinedGoOn : Type 0
 JoinedGoOn = OfEachMoment (λ s. (x : ℕ) → IsTrue (is_running s.machine x && not (waits_for_left s x)) → GoesOnAt (moment_of s) (place_at s x))
 
--- and that the right strand of a fork goes on before it is split or the left one finishes
+-- the right strand of a fork goes on before the fork is split or the left strand finishes
 abbrev pub UnreadyGoOn : Type 0
 UnreadyGoOn = OfEachMoment (λ s. (x : ℕ) → IsTrue (is_running s.machine x && not (waits_for_merge s x)) → GoesOnAt (moment_of s) (place_at s x))
 
--- and that a split leaves each strand that goes on at its gap, also the right one of the fork, whose left one has finished
+-- a split leaves each strand that goes on at its gap, even the right strand of the fork, once the left one has finished
 abbrev pub SplitsLeaveGaps : Type 0
 SplitsLeaveGaps =
     OfEachMoment (λ s. (f x : ℕ) → IsTrue (is_whole s f) → before_split s.columns (fork_column s.machine.tree f) ≡ None → IsUnstarted s.machine.tree s.joins (fork_column s.machine.tree f) → IsTrue (goes_on s x)
