@@ -22,19 +22,19 @@ use Rattle.cw_record.specs.Items.{items}
 use Rattle.cw_record.specs.Coherent.{outputs_shown, Follows, EndStands}
 use Rattle.cw_record.specs.ClosedRun.{IsClosedRun, end_after}
 
--- A run that stopped for want of memory has no record. A strand at which a run stopped is one of its tree.
+-- A run that stopped because memory ran out has no record. A strand at which a run stopped is one of its tree.
 abbrev pub HasRecord : List Node → Option Halt → Type 0
 HasRecord t None = Unit {0}
 HasRecord t (Some (stop.Fault x kind)) = IsTrue (is_strand t x)
 HasRecord t (Some (stop.Budget x)) = IsTrue (is_strand t x)
 HasRecord t (Some stop.Memory) = ⊥
 
--- what a cell that had this value holds after these accesses of it
+-- the value of a cell after these accesses of it, if it was v before
 abbrev pub value_left : ℤ → List Entry → ℤ
 value_left v [] = v
 value_left v (e ∷ es) = value_left e.value es
 
--- what each cell holds after its journal: its first value, where it has none
+-- what each cell holds after its journal, or its first value if it has none
 abbrev pub memory_left : (first : List ℤ) → List (List Entry) → List ℤ
 memory_left vs [] = vs
 memory_left [] (es ∷ kept) = []
@@ -44,16 +44,16 @@ memory_left (v ∷ vs) (es ∷ kept) = value_left v es ∷ memory_left vs kept
 abbrev pub outputs_left : List Node → List Conflict → (budget : ℕ) → List ℤ
 outputs_left t cs budget = outputs_shown t (items t cs budget (Finished [] []))
 
--- an end, with this memory and these outputs where the run finished
+-- the end, with this memory and these outputs if the run finished
 abbrev pub with_left : RecordEnd → (memory outputs : List ℤ) → RecordEnd
 with_left (Finished m o) memory outputs = Finished memory outputs
 with_left e memory outputs = e
 
--- how a closed run ended, and what it left where it finished
+-- how a closed run ended, and what it left if it finished
 abbrev pub end_left : (first : List ℤ) → (budget : ℕ) → Closed → (spent : Bool) → RecordEnd
 end_left first budget c spent = end_after c.halt spent (memory_left first c.journals) (outputs_left c.tree c.conflicts budget)
 
--- In depth-first order, this is what a closed run of this job leaves, whose machine and halt were these.
+-- A closed run of this job, which left this machine and halt, leaves c in depth-first order.
 pub record IsLeftBy (job : Job) (spent : Bool) (m : OpenMachine) (h : Option Halt) (c : Closed) : Type 0 where
   pub numbered : IsNumbered m.tree
   pub tree : c.tree ≡ in_order m.tree
@@ -61,8 +61,8 @@ pub record IsLeftBy (job : Job) (spent : Bool) (m : OpenMachine) (h : Option Hal
   pub halt : c.halt ≡ halt_in_order m.tree h
   pub run : IsClosedRun (strands_of_job job) (first_memory job.program.cells) job.limits.aborts m c.journals h spent
 
--- This is what strands may leave, over a memory with these first values, where each may have that many attempts: the tree is a history, the
--- run may have stopped so, and each strand did what it wanted and stands as the end says. How they were run is not said.
+-- Strands may leave c, over a memory with these first values, if each may have `budget` attempts. The tree is a history, the run
+-- may have stopped that way, and each strand did what it wanted and is where the end says. How the strands were run is left open.
 pub record AreLeft {A : Type 0} (s : Strands A) (first : List ℤ) (budget : ℕ) (spent : Bool) (c : Closed) : Type 0 where
   pub history : IsHistory c.tree first c.journals c.conflicts
   pub faulted : MayFault c.tree c.halt

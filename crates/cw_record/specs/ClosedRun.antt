@@ -1,4 +1,5 @@
--- A closed run of a program's strands: a state of the open machine in which a run was left, what its strands did, and how it came to its end.
+-- A closed run of a program's strands: the state of the open machine in which the run was left, what its strands did, and how it
+-- ended.
 use Rattle.std.specs.Prelude.{◌≡◌, ℕ, ℤ, ◌<◌, ◌&&◌, ◌||◌, Bool, true, false, not, IsTrue, List, [], ◌∷◌, length, slice_get, Option, Some, None}
 use Rattle.cw_strand.specs.declared.want.Want.TheVariants as want
 use Rattle.cw_strand.specs.Strands.{Strands, is_over}
@@ -23,22 +24,22 @@ use Rattle.cw_record.specs.Coherent.{InSeries, IsWanted, entered, IsMemory, IsCo
 
 -- ## What strands did
 
--- As in a coherent record, each node has the state of its strand before it and the one after it, and a strand or block also the one that
--- was reached in it.
+-- As in a coherent record, each node has the state of its strand before it and the one after it. A strand or block also has the one
+-- that was reached in it.
 module _ {A : Type 0} (s : Strands A) (m : OpenMachine) (before after reached : ℕ → A) where
   pub record AreStates : Type 0 where
     pub start : before 0 ≡ s.start
     pub series : (n : ℕ) → n < length m.tree → IsTrue (is_strand m.tree n || is_block m.tree n) → InSeries before after (entered s m.tree before after reached n) (children m.tree n) (reached n)
     pub fits : (n : ℕ) (x : Node) → slice_get m.tree n ≡ Some x → IsWanted s m.tree before after reached n x.kind x.state
-    -- behind a fork that was joined is what its strands become, where none of them died
+    -- after a joined fork comes what its strands join to, if none of them died
     pub joined : (f l r : ℕ) → IsTrue (has m.joined f) → children m.tree f ≡ l ∷ r ∷ [] → finished_dead m l ≡ false → finished_dead m r ≡ false → after f ≡ s.joined (reached r) (reached l)
-    -- a strand that finished, and did not die, is over
+    -- a strand that finished and did not die is over
     pub over : (x : ℕ) → IsTrue (is_strand m.tree x && has_finished m x && not (finished_dead m x)) → IsTrue (is_over (s.want (reached x)))
 
   -- ## How it ended
 
-  -- a fault is what its strand wants, which may go on; where nothing stopped the run its moves were spent before the root had finished, or
-  -- it finished
+  -- A fault is what its strand wants, and that strand may go on. If nothing stopped the run, either its moves were spent before the
+  -- root had finished, or the root finished.
   abbrev pub EndsSo : (budget : ℕ) → Option Halt → (spent : Bool) → Type 0
   EndsSo budget (Some (halt.Fault x kind)) spent = IsTrue (is_free (unstopped m) x) × (s.want (reached (place m.tree x)) ≡ want.Fault kind)
   EndsSo budget (Some (halt.Budget x)) spent = HasSpent m budget x
@@ -48,8 +49,8 @@ module _ {A : Type 0} (s : Strands A) (m : OpenMachine) (before after reached : 
 
 -- ## A closed run
 
--- a run of these strands over a memory with these first values, in which a strand may have that many attempts, was left in this state, with
--- these entries of its cells; how many attempts it may have matters only where a spent budget stopped the run
+-- A run of these strands was left in this state, with these entries of its cells, over a memory with these first values. A strand
+-- may have `budget` attempts, which matters only if a spent budget stopped the run.
 pub record IsClosedRun {A : Type 0} (s : Strands A) (first : List ℤ) (budget : ℕ) (m : OpenMachine) (kept : List (List Entry)) (h : Option Halt) (spent : Bool) : Type 0 where
   pub reached : ReachedInTime (as_told (λ t us w. newest us)) first m
   -- no undo is under way
@@ -57,7 +58,7 @@ pub record IsClosedRun {A : Type 0} (s : Strands A) (first : List ℤ) (budget :
   pub entries : AreKept m kept
   pub states : (before after reached : ℕ → A) × AreStates s m before after reached × EndsSo s m before after reached budget h spent
 
--- how a run ended: as it was stopped, or else its moves were spent, or else it finished
+-- how a run ended: as it was stopped; otherwise its moves were spent; otherwise it finished
 abbrev pub end_after : Option Halt → (spent : Bool) → (memory outputs : List ℤ) → RecordEnd
 end_after (Some (halt.Fault x kind)) spent memory outputs = Fault x kind
 end_after (Some (halt.Budget x)) spent memory outputs = Budget x

@@ -1,4 +1,4 @@
--- What one worker draws of its run, and what each step makes of it.
+-- What one worker draws of its run, and how each step changes the drawing.
 use Rattle.std.specs.Prelude.{ℕ, ℤ, ◌+◌, Bool, true, false, List, [], ◌∷◌, ◌++◌, length, replicate, slice_get, slice_set, Option, Some, None}
 use Rattle.cw_tree.specs.declared.node.Node.{Node}
 use Rattle.cw_tree.specs.declared.node.Kind.{Kind}
@@ -12,7 +12,7 @@ use Rattle.cw_job.specs.Memory.{value_at}
 use Rattle.cw_serial.specs.Wants.{Since, given_up}
 use Rattle.cw_record.specs.declared.drawing.Drawing.{Drawing}
 
--- a run as it is drawn: its tree, the place where the next node goes, the last stamp, and the journal of each element
+-- a run as it is drawn: its tree, the place of the next node, the last stamp, and the journal of each element
 pub record Drawn : Type 0 where
   pub tree : List Node
   pub place : ℕ
@@ -23,17 +23,17 @@ pub record Drawn : Type 0 where
 abbrev pub drawn : Drawing → Drawn
 drawn d = record { tree = d.tree; place = d.place; clock = d.clock; journals = d.journals.items }
 
--- the root strand alone, and an empty journal for each of so many elements
+-- the root strand alone, with an empty journal for each of `elements` elements
 abbrev pub blank : (elements : ℕ) → Drawn
 blank elements = record { tree = fresh_node 0 Strand 0 ∷ []; place = 0; clock = 0; journals = replicate elements [] }
 
 -- ## Nodes and entries
 
--- one node more, at place p
+-- the tree with one more node, at place p
 abbrev pub added : List Node → ℕ → Kind → ℕ → List Node
 added t p kind stamp = t ++ fresh_node p kind stamp ∷ []
 
--- a fork more, with its left strand
+-- the tree with one more fork, and its left strand
 abbrev pub added_fork : List Node → ℕ → ℕ → List Node
 added_fork t p stamp = added (added t p Fork stamp) (length t) Strand 0
 
@@ -41,21 +41,21 @@ abbrev pub with_entry : List (List Entry) → ℕ → Entry → Option (List Ent
 with_entry kept c e None = kept
 with_entry kept c e (Some es) = slice_set kept c (es ++ e ∷ [])
 
--- one entry more in the journal of cell c, where that is there
+-- the journals with one more entry for cell c, if c has a journal
 abbrev pub noted : List (List Entry) → ℕ → Entry → List (List Entry)
 noted kept c e = with_entry kept c e (slice_get kept c)
 
--- the entry of an access: only its stamp tells it, since one worker has one column
+-- the entry of an access; only its stamp identifies it, since one worker has one column
 abbrev pub entry : (stamp : ℕ) (wrote : Bool) (value old : ℤ) → Entry
 entry stamp wrote value old = record { mark = record { strand = 0; stamp = stamp }; wrote = wrote; value = value; old = old }
 
 -- ## What a strand does
 
--- a node more at the place, with the next stamp
+-- the drawing with one more node at the place, with the next stamp
 abbrev pub after_node : Kind → Drawn → Drawn
 after_node kind d = record d { tree = added d.tree d.place kind (d.clock + 1); clock = d.clock + 1 }
 
--- an entry more in the journal of a cell, with the last stamp
+-- the drawing with one more entry for a cell, with the last stamp
 abbrev pub after_entry : (cell : ℕ) (wrote : Bool) (value old : ℤ) → Drawn → Drawn
 after_entry cell wrote value old d = record d { journals = noted d.journals cell (entry d.clock wrote value old) }
 
@@ -69,11 +69,11 @@ after_write cell value old d = after_entry cell true value old (after_node (Writ
 abbrev pub after_begin : Drawn → Drawn
 after_begin d = record (after_node Block d) { place = length d.tree }
 
--- The block at the place is committed, and the next node goes behind it.
+-- The block at the place is committed, and the next node goes after it.
 abbrev pub after_end : Drawn → Drawn
 after_end d = record d { tree = closed d.tree d.place Committed (d.clock + 1); place = parent_of d.tree d.place; clock = d.clock + 1 }
 
--- what is drawn of a want that is done, where memory was this, and the begun blocks may put this back
+-- the drawing after a want is done, if memory was this, and if this is what the begun blocks may put back
 abbrev pub drawn_after : Want → (memory : List ℤ) → List Since → Drawn → Drawn
 drawn_after (want.Load c) memory since d = after_read c (value_at memory c) d
 drawn_after (want.Store c v) memory since d = after_write c v (value_at memory c) d
@@ -85,14 +85,14 @@ drawn_after w memory since d = d
 
 -- ## From strand to strand
 
--- a fork with its left strand, and the next node goes into that
+-- a fork with its left strand, which the next node goes into
 abbrev pub after_fork : Drawn → Drawn
 after_fork d = record d { tree = added_fork d.tree d.place (d.clock + 1); place = length d.tree + 1; clock = d.clock + 1 }
 
--- a strand of a fork, and the next node goes into it
+-- a strand of a fork, which the next node goes into
 abbrev pub after_start : (fork : ℕ) → Drawn → Drawn
 after_start fork d = record d { tree = added d.tree fork Strand 0; place = length d.tree }
 
--- The next node goes behind the fork.
+-- The next node goes after the fork.
 abbrev pub after_join : (fork : ℕ) → Drawn → Drawn
 after_join fork d = record d { place = parent_of d.tree fork }

@@ -1,8 +1,9 @@
--- What stands in the order of a record, one thing after another.
+-- The items in the order of a record, one after another.
 --
--- At the root and in each block its members are listed: the accesses, outputs and cancels right in it by their stamps, the committed blocks
--- right in it by the stamps of their ends. A block stands there as its begin, its members and its end. What was rolled back is left out. Where
--- the run did not finish, the pending blocks above the place of its end are there too: each is the last at its level, and has no end.
+-- At the root and in each block its members are listed: the accesses, outputs and cancels directly in it by their stamps, the
+-- committed blocks directly in it by the stamps of their ends. A block is listed as its begin, its members and its end. What was
+-- rolled back is left out. If the run did not finish, the pending blocks above the place of its end are listed too: each is the
+-- last at its level, and has no end.
 use Rattle.std.specs.Prelude.{ℕ, zero, suc, ◌==◌, ◌&&◌, ◌||◌, Bool, true, false, List, [], ◌∷◌, ◌++◌, length, filter, find, Option, Some, None, is_some, if◌then◌else◌}
 use Rattle.std.specs.List.{flat_map}
 use Rattle.std.specs.Option.{option_map_or}
@@ -36,23 +37,23 @@ same_block None None = true
 same_block (Some a) (Some b) = a == b
 same_block _ _ = false
 
--- node n is right in block b, or at the root where that is none
+-- node n is directly in block b, or at the root if b is None
 abbrev pub is_right_in : List Node → Option ℕ → ℕ → Bool
 is_right_in t b n = same_block (xparent t n) b
 
--- where a member stands: a block by the stamp of its end, an access, output or cancel by its own
+-- what orders a member: for a block the stamp of its end, for an access, output or cancel its own stamp
 abbrev pub key : List Node → ℕ → ℕ
 key t n = if is_block t n then end_of t n else stamp_of t n
 
--- the accesses, outputs, cancels and committed blocks right in a block, or at the root
+-- the accesses, outputs, cancels and committed blocks directly in a block, or at the root
 abbrev pub members : List Node → Option ℕ → List ℕ
 members t b = filter (λ n. (is_act t n || is_committed t n) && is_right_in t b n) (all_nodes t)
 
--- the pending block right in a block, or at the root, on the way to place p
+-- the pending block directly in a block, or at the root, on the way to place p
 abbrev pub open_member : List Node → ℕ → Option ℕ → Option ℕ
 open_member t p b = find (λ n. is_pending t n && is_right_in t b n) (path t p)
 
--- a member, where these are the items in it
+-- a member, if these are the items in it
 abbrev pub as_items : Bool → ℕ → List OrderItem → List OrderItem
 as_items true n inner = Begins n ∷ inner ++ Ends n ∷ []
 as_items false n inner = Does n ∷ []
@@ -62,18 +63,18 @@ abbrev pub last_open : Option ℕ → List OrderItem → List OrderItem
 last_open None inner = []
 last_open (Some n) inner = Begins n ∷ inner
 
--- the items in a block, or at the root, to k levels
+-- the items in a block, or at the root, down to k levels
 abbrev pub items_in : List Node → ℕ → ℕ → Option ℕ → List OrderItem
 items_in t p zero b = []
 items_in t p (suc k) b =
     flat_map (λ n. as_items (is_block t n) n (items_in t p k (Some n))) (by_key (key t) (members t b))
     ++ last_open (open_member t p b) (items_in t p k (open_member t p b))
 
--- the place of what a conflict refused: an access itself, or where the block stands
+-- the place of what a conflict refused: the access itself, or the parent of the block
 abbrev pub place_of_refused : List Node → Conflict → ℕ
 place_of_refused t c = if is_some (victim_of c) then parent_of t (refused_node t c) else c.asker
 
--- Where a run came to its end: the pending blocks above this place, and it where it is one, are in the order.
+-- Where a run ended. The order contains the pending blocks above this place, and the place itself if it is a pending block.
 abbrev pub place_of_end : List Node → List Conflict → ℕ → RecordEnd → ℕ
 place_of_end t cs budget (Finished memory outputs) = 0
 place_of_end t cs budget (Fault s kind) = place t s

@@ -1,4 +1,4 @@
--- What strands did, said of a tree in depth-first order.
+-- What strands did, for a tree in depth-first order.
 use Rattle.std.specs.Prelude.{◌≡◌, ℕ, ◌<◌, List, length}
 use Rattle.cw_strand.specs.Strands.{Strands}
 use Rattle.cw_tree.specs.declared.node.Node.{Node}
@@ -6,8 +6,8 @@ use Rattle.cw_tree.specs.Walks.{IsNumbered}
 use Rattle.cw_tree.specs.InOrder.{renamed, in_order}
 use Rattle.cw_record.specs.Coherent.{Follows, StrandEnded, HasNoOpenFork}
 
--- These states of a tree's nodes are as well states of the nodes in depth-first order, which follow; strands that have ended have ended
--- there, and where no fork is open none is.
+-- The states of a tree's nodes are also states of the nodes in depth-first order, by which strands follow their program there. A
+-- strand that has ended has ended there too, and a node without an open fork has none there.
 pub record MovedStates {A : Type 0} (s : Strands A) (t : List Node) (before after reached : ℕ → A) : Type 0 where
   pub new_before : ℕ → A
   pub new_after : ℕ → A

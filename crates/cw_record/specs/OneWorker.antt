@@ -13,35 +13,36 @@ use Rattle.cw_record.specs.declared.worker.Branch.TheVariants.{Left, Right}
 use Rattle.cw_record.specs.declared.worker.Worker.{Worker}
 use Rattle.cw_record.specs.Drawn.{drawn, drawn_after}
 
--- the law of the strands that it runs
+-- the law of the strands that the worker runs
 abbrev pub law_of_worker : Worker → Strands StrandState
 law_of_worker w = strands_of_job (job_of_task w.task)
 
--- what the strand that it runs wants
+-- what its running strand wants
 abbrev pub want_of_worker : Worker → Want
 want_of_worker w = (law_of_worker w).want (state_of w.strand)
 
--- It goes from strand to strand: what it runs by, memory and outputs stay.
+-- The worker switches to another strand: its task, memory, outputs and begun blocks stay.
 pub record SwitchesStrand (old new : Worker) : Type 0 where
   pub task : new.task ≡ old.task
   pub memory : new.memory ≡ old.memory
   pub outputs : new.outputs ≡ old.outputs
   pub undo : new.undo ≡ old.undo
 
--- its begun blocks may put this back
+-- what its begun blocks may put back
 abbrev pub MayPutBack : Worker → List Since → Type 0
 MayPutBack w since = AreSince w.undo w.memory.items since
 
--- they may where its strand gives up its block: no other want looks at it
+-- `since` is that, if its strand gives up its block; no other want looks at it
 abbrev pub LooksRight : Worker → List Since → Type 0
 LooksRight w since = want_of_worker w ≡ Cancel → MayPutBack w since
 
--- Only its begun blocks, with what they may put back, are others: those after what its strand wants, each the block of one strand, number 0.
+-- Only its begun blocks change, with what they may put back: they become those after what its strand wants, all as blocks of strand
+-- 0.
 pub record FollowsBlocks (old new : Worker) : Type 0 where
   pub same : new ≡ record old { undo = new.undo }
   pub blocks : BlocksFollow (want_of_worker old) 0 old.memory.items old.undo new.undo
 
--- It did what its strand wants, in memory, outputs and drawing: what it runs by, its begun blocks and the waiting strands stay.
+-- The worker did what its strand wants, in memory, outputs and drawing. Its task, its begun blocks and its waiting strands stay.
 pub record DoesItsWant (old new : Worker) : Type 0 where
   pub task : new.task ≡ old.task
   pub branches : new.branches ≡ old.branches
@@ -50,12 +51,12 @@ pub record DoesItsWant (old new : Worker) : Type 0 where
   pub undo : new.undo ≡ old.undo
   pub drawing : (since : List Since) → LooksRight old since → drawn new.drawing ≡ drawn_after (want_of_worker old) old.memory.items since (drawn old.drawing)
 
--- One fork more, with this node, whose right strand, in this state, is to come.
+-- there is one more fork, with this node, whose right strand has this state and has yet to start
 abbrev pub WaitsOnLeft : (old new : List Branch) → (node : ℕ) → StrandState → Type 0
 WaitsOnLeft old (Left f right ∷ rest) node state = (f ≡ node) × (rest ≡ old) × (state_of right ≡ state)
 WaitsOnLeft old new node state = ⊥
 
--- the nodes of the forks whose right strands are still to come, the innermost first
+-- the nodes of the forks whose right strands have yet to start, innermost first
 abbrev pub unstarted : List Branch → List ℕ
 unstarted [] = []
 unstarted (Left f right ∷ rest) = f ∷ unstarted rest
@@ -63,7 +64,7 @@ unstarted (Right f left ∷ rest) = unstarted rest
 
 -- ## Strands of the program
 
--- the strand that waits there is one of the program
+-- the strand that waits in a branch is one of the program
 abbrev pub BranchStands : Program → Branch → Type 0
 BranchStands p (Left f right) = IsOf p right
 BranchStands p (Right f left) = IsOf p left

@@ -1,4 +1,4 @@
--- The order of a record: what one memory has to do, one thing after another, to come to the same end.
+-- The order of a record: what one memory has to do, one thing after another, to end as the run did.
 use Rattle.std.specs.Prelude.{ℕ, List, map}
 use Rattle.cw_tree.specs.declared.node.Node.{Node}
 use Rattle.cw_tree.specs.declared.conflict.Conflict.{Conflict}
@@ -16,7 +16,7 @@ node_of (Begins n) = n
 node_of (Does n) = n
 node_of (Ends n) = n
 
--- the strand that an end names, or the root's
+-- the strand that an end names, or the root
 abbrev pub ending_strand : RecordEnd → ℕ
 ending_strand (Fault s kind) = s
 ending_strand (Budget s) = s
@@ -26,7 +26,7 @@ ending_strand _ = 0
 abbrev pub pick_of : List Node → OrderItem → ℕ
 pick_of t i = strand_number t (strand_of t (node_of i))
 
--- the order of a run of these items
+-- the order of a run with these items
 abbrev pub order_through : List Node → List OrderItem → RecordEnd → Picks
 order_through t is e = record { names = listed_names t; list = map (pick_of t) is; last = strand_number t (ending_strand e) }
 

@@ -1,4 +1,4 @@
--- What a record holds, and what is true of the run of one worker.
+-- What a record holds, and what is true of a run of one worker.
 use Rattle.std.specs.Prelude.{◌≡◌, ℕ, suc, ◌<◌, List, [], map, length, true, Some, IsTrue}
 use Rattle.cw_strand.specs.declared.want.Want.TheVariants.{Fault as AFault}
 use Rattle.cw_strand.specs.Programs.{IsCompiled}
@@ -23,19 +23,19 @@ use Rattle.cw_record.specs.Order.{ending_strand}
 use Rattle.cw_record.specs.Replay.{doer, DoesAll, Replays}
 use Rattle.cw_record.specs.Coherent.{IsCoherent, HasOutputs}
 
--- what a record is a run of
+-- the job that a record is a run of
 abbrev pub job_of_record : Record → Job
 job_of_record r = record { program = r.program; words = r.words; limits = r.limits }
 
--- One memory, in the order of the record, does what the record says, and comes to its end.
+-- One memory, in the order of the record, does what the record says, and ends as it ends.
 abbrev pub IsReplayed : Record → Type 0
 IsReplayed r = Replays (strands_of_job (job_of_record r)) (first_memory r.program.cells) r.limits.aborts r.tree r.conflicts r.order r.end
 
--- what a record keeps is coherent for the strands of its program
+-- a record is coherent for the strands of its program
 abbrev pub IsCoherentRun : Record → Type 0
 IsCoherentRun r = IsCoherent (strands_of_job (job_of_record r)) (first_memory r.program.cells) r.limits.aborts r.tree r.journals r.conflicts r.end
 
--- A record is coherent for the strands of its program, which is a compiled one, and has as many words as main has parameters.
+-- A record is coherent, its program is a compiled one, and it has as many words as main has parameters.
 pub record IsCoherentRecord (r : Record) : Type 0 where
   pub program : IsCompiled r.program
   pub words : TakesWords r.program (length r.words)
@@ -52,7 +52,7 @@ HasEnded (Fault strand kind) = Unit {0}
 HasEnded (Budget strand) = ⊥
 HasEnded Moves = ⊥
 
--- Nothing is left to do in main, or the leftmost strand, of this name, stands at a fault.
+-- Nothing is left to do in main; or the leftmost strand, which has the name of x, is at the fault.
 abbrev pub StopsAt : Job → List Node → RecordEnd → Machine StrandState → Type 0
 StopsAt job t (Finished memory outputs) m = (has_ended (strands_of_job job) m ≡ true) × (m.memory ≡ memory) × (m.outputs ≡ outputs)
 StopsAt job t (Fault x kind) m =
@@ -60,8 +60,8 @@ StopsAt job t (Fault x kind) m =
     × ((a : StrandState) × (at (strands_of_job job) m.strands (name_of t x) ≡ Some a) × ((strands_of_job job).want a ≡ AFault kind))
 StopsAt job t e m = ⊥
 
--- The order of these items is the depth-first one, in which the leftmost strand is picked, until there is none, or it stands at a fault;
--- and at each pick the machine does what the tree has there.
+-- The order of these items is depth first: it picks the leftmost strand, until there is none or it is at a fault. At each pick the
+-- machine does what the tree has there.
 pub record GoesThrough (job : Job) (t : List Node) (is : List OrderItem) (e : RecordEnd) : Type 0 where
   pub machine : Machine StrandState
   pub picks : GoesDepthFirst (strands_of_job job) (machine_of job) (map (doer t) is) machine
@@ -71,16 +71,16 @@ pub record GoesThrough (job : Job) (t : List Node) (is : List OrderItem) (e : Re
 abbrev pub IsDepthFirst : Record → Type 0
 IsDepthFirst r = GoesThrough (job_of_record r) r.tree (items r.tree r.conflicts r.limits.aborts r.end) r.end
 
--- Numbers are depth first: each node hangs from the one before it, or from a node above that one.
+-- Nodes are numbered depth first: each hangs from the one before it, or from a node above that one.
 abbrev pub IsNumberedDepthFirst : List Node → Type 0
 IsNumberedDepthFirst t = (n : ℕ) → suc n < length t → IsTrue (is_ancestor t (parent_of t (suc n)) n)
 
--- the blocks around place q, and one that is there, are pending, and all others are committed
+-- the blocks around place q, or at it, are pending, and all others are committed
 pub record BlocksAround (t : List Node) (q : ℕ) : Type 0 where
   pub pending : (b : ℕ) → IsTrue (is_block t b) → IsTrue (is_ancestor t b q) → IsTrue (is_pending t b)
   pub committed : (b : ℕ) → IsTrue (is_block t b) → (IsTrue (is_ancestor t b q) → ⊥) → IsTrue (is_committed t b)
 
--- All blocks are committed, but for those around the place of a fault, which are pending.
+-- All blocks are committed, except those around the place of a fault, which are pending.
 abbrev pub BlocksEnded : List Node → RecordEnd → Type 0
 BlocksEnded t e = BlocksAround t (place_of_end t [] 0 e)
 

@@ -14,7 +14,7 @@ use Rattle.cw_record.specs.declared.items.OrderItem.{OrderItem}
 use Rattle.cw_record.specs.Items.{items}
 use Rattle.cw_record.specs.Replay.{DoesAll, WantsAgain, IsSpent}
 
--- from this machine on, the items are done, and then a strand that spent its budget stands at what was refused
+-- from machine m on, the items are done, and then a strand that spent its budget is at what was refused
 abbrev pub DoesFrom : Record → Machine StrandState → List OrderItem → Type 0
 DoesFrom r m is =
     (n : Machine StrandState)
@@ -28,7 +28,7 @@ abbrev pub WantsTold : Option Conflict → Option Want → Type 0
 WantsTold None w = ⊥
 WantsTold (Some c) w = IsSomeAnd w (WantsAgain c)
 
--- a strand that spent its budget, and wants this, wants what was refused
+-- a strand that spent its budget, and wants w, wants what was refused
 abbrev pub WantsRefused : Record → RecordEnd → Option Want → Type 0
 WantsRefused r (Budget x) w = WantsTold (telling r.tree r.conflicts r.limits.aborts x) w
 WantsRefused r e w = Unit {0}

@@ -1,4 +1,4 @@
--- Strands for small records: each does what its script says, whatever it is answered.
+-- Strands for small records: each does what its script says, whatever the answers are.
 use Rattle.std.specs.Prelude.{ℕ, ◌+◌}
 use Rattle.cw_strand.specs.declared.want.Want.{Want}
 use Rattle.cw_strand.specs.declared.want.Want.TheVariants.{Fork, Sync, Done}
@@ -7,11 +7,11 @@ use Rattle.cw_strand.specs.Strands.{Strands}
 pub data Script : Type 0 where
   -- nothing is left
   done : Script
-  -- a right strand at its end, and what is done behind the fork
+  -- a right strand at its end, and what is done after the fork
   sync : Script → Script
-  -- a want, and what is done behind it
+  -- a want, and what is done after it
   act : Want → Script → Script
-  -- the two strands of a fork; what is done behind it stands behind the right one
+  -- the two strands of a fork; what is done after the fork follows in the right one
   fork : (left right : Script) → Script
 
 abbrev pub wants_of : Script → Want
@@ -36,7 +36,7 @@ abbrev pub behind_sync : (right : Script) → Script
 behind_sync (sync x) = x
 behind_sync x = x
 
--- how many wants and forks it has
+-- the number of wants and forks in a script
 abbrev pub script_size : Script → ℕ
 script_size done = 0
 script_size (sync x) = script_size x

@@ -1,6 +1,6 @@
--- Small closed runs in which a step came late: an access was refused for a block that had ended by then, and a block began with a stamp
--- that was drawn before others. Each is a closed run of strands that did what they want, and has a sibling, with one output more, that is
--- none of any strands.
+-- Small closed runs in which a step came late: an access was refused because of a block that had ended by then, and a block began
+-- with a stamp that was drawn before others. Each is a closed run of strands that did what they want. Each has a sibling, with one
+-- more output, that is a closed run of no strands.
 use Rattle.std.specs.Prelude.{ℕ, List, pos, Bool, true, false, Option, None}
 use Rattle.cw_strand.specs.declared.want.Want.TheVariants.{Load, Store, Out as Shows, Begin, End}
 use Rattle.cw_strand.specs.Strands.{Strands}
@@ -11,7 +11,8 @@ use Rattle.cw_open.specs.WorkedTimes.{one_cell, late, late_entries, too_late, ea
 use Rattle.cw_record.specs.ClosedRun.{IsClosedRun}
 use Rattle.cw_record.specs.Scripts.{Script, done, sync, act, fork, scripted}
 
--- strands with these scripts left this state, each with two attempts, and nothing stopped them; the moves were spent or not
+-- strands with these scripts, each with two attempts, left this state, and nothing stopped them; `spent` says whether the moves
+-- were spent
 abbrev pub IsClosedBy : Script → OpenMachine → (kept : List (List Entry)) → (spent : Bool) → Type 0
 IsClosedBy main m kept spent = IsClosedRun (scripted main) one_cell 2 m kept None spent
 
@@ -28,10 +29,10 @@ reads_behind shown = fork (act Begin (act (Store 0 (pos 1)) (act End (act (Shows
 
 pub record ClosedLate : Type 0 where
   pub holds : IsClosedBy (reads_behind 1) late late_entries false
-  -- not where its moves were spent, since main finished; nor of strands that show something else
+  -- not if its moves were spent, since main finished; nor for strands that output something else
   pub spent : IsClosedBy (reads_behind 1) late late_entries true → ⊥
   pub other : IsClosedBy (reads_behind 2) late late_entries false → ⊥
-  -- with an output of the right strand before it, there was no moment at which the access met a pending block
+  -- with an output of the right strand before it, the access met no pending block at any moment
   pub none : IsNeverClosed too_late
 
 -- ## A stamp was drawn early
@@ -44,7 +45,7 @@ reads_in_block written = fork (act (Store 0 (pos written)) done) (act Begin (act
 pub record ClosedEarly : Type 0 where
   pub holds : IsClosedBy (reads_in_block 1) early early_entries false
   pub spent : IsClosedBy (reads_in_block 1) early early_entries true → ⊥
-  -- not of strands that write something else
+  -- not for strands that write something else
   pub other : IsClosedBy (reads_in_block 2) early early_entries false → ⊥
-  -- with an output of the right strand before its block, that could not have begun
+  -- with an output of the right strand before its block, the block could not have begun
   pub none : IsNeverClosed too_early

@@ -1,5 +1,5 @@
--- Small records that came to each of the ends that are not main's own: a fault, a budget that was spent in a block and by an access, and
--- moves that were used up. Each is coherent, and is not where one thing is changed.
+-- Small records that came to each of the ends that are not main's own: a fault, a budget that was spent in a block and one that was
+-- spent by an access, and moves that were used up. Each is coherent, and is not if one thing is changed.
 use Rattle.std.specs.Prelude.{◌≡◌, ℕ, ℤ, List, [], ◌∷◌, ◌++◌, pos, true, false}
 use Rattle.cw_code.specs.declared.FaultKind.TheVariants.{Zero, Overflow}
 use Rattle.cw_strand.specs.declared.want.Want.TheVariants.{Load, Store, Out as Shows, Begin, End, Fault as Fails}
@@ -35,7 +35,8 @@ divides =
     fork (act Begin (act (Store 0 (pos 1)) (act (Store 0 (pos 2)) (act End done))))
     (act Begin (fork (act (Store 0 (pos 3)) done) (act (Load 1) (act (Fails Zero) (sync (act End (sync done)))))))
 
--- The left strand wrote c; the left one of the right strand was refused; the right one of it read d, with this value. `0.1r` began this block.
+-- The left strand wrote c. The left strand of the right one was refused. The right strand of the right one read d, with this value.
+-- `0.1r` began this block.
 abbrev pub divided : Node → (value : ℤ) → List Node
 divided block value =
     plain 0 Strand 0 ∷ plain 0 Fork 1 ∷ plain 1 Strand 0 ∷ pending 2 2 ∷ plain 3 (Write 0 (pos 1)) 3 ∷ plain 1 Strand 0 ∷ block ∷ plain 6 Fork 5
@@ -52,8 +53,8 @@ Divides block value of_d e =
 pub record AtFault : Type 0 where
   pub holds : Divides (pending 5 4) (pos 0) (met 6 (pos 0) ∷ []) (Fault 10 Zero)
   pub order : items (divided (pending 5 4) (pos 0)) (refused_in_block ∷ []) 2 (Fault 10 Zero) ≡ Begins 6 ∷ Does 11 ∷ []
-  -- not where the block was rolled back, though then d has no live access; nor of a node that is no strand, nor with a fault at which
-  -- that strand does not stand, nor with a value that d had not
+  -- not if the block was rolled back, although d then has no live access; nor for a node that is no strand, nor with a fault other
+  -- than that strand's, nor with a value that d did not have
   pub rolled_back : Divides (aborted 5 4 7) (pos 0) [] (Fault 10 Zero) → ⊥
   pub no_strand : Divides (pending 5 4) (pos 0) (met 6 (pos 0) ∷ []) (Fault 11 Zero) → ⊥
   pub other_kind : Divides (pending 5 4) (pos 0) (met 6 (pos 0) ∷ []) (Fault 10 Overflow) → ⊥
@@ -80,7 +81,7 @@ Spawns budget e = IsCoherent (scripted spawns) (pos 0 ∷ []) budget spawned ((e
 pub record AtVictim : Type 0 where
   pub holds : Spawns 1 (Budget 5)
   pub order : items spawned (refused_in_block ∷ []) 1 (Budget 5) ≡ []
-  -- not with another budget, nor in the strand that was refused, which did not begin the victim
+  -- not with another budget, nor for the strand that was refused, which did not begin the victim
   pub other_budget : Spawns 2 (Budget 5) → ⊥
   pub asker : Spawns 1 (Budget 8) → ⊥
 
@@ -95,7 +96,7 @@ abbrev pub written : List Node
 written =
     plain 0 Strand 0 ∷ pending 0 1 ∷ plain 1 Fork 2 ∷ plain 2 Strand 0 ∷ pending 3 3 ∷ plain 4 (Write 0 (pos 1)) 4 ∷ plain 2 Strand 0 ∷ plain 6 (Tried 0) 0 ∷ []
 
--- no block has to roll back
+-- no block has to be rolled back
 abbrev pub refused_alone : Conflict
 refused_alone = record { cell = 0; last = 4; asker = 7; block = 3; victim = 0; attempt = 1; chain = 4 ∷ [] }
 
@@ -105,7 +106,7 @@ WritesTwice c e = IsCoherent (scripted writes) (pos 0 ∷ []) 1 written ((entry 
 pub record AtAccess : Type 0 where
   pub holds : WritesTwice refused_alone (Budget 6)
   pub order : items written (refused_alone ∷ []) 1 (Budget 6) ≡ Begins 1 ∷ []
-  -- not of the node that was refused, which is no strand; nor of the block around both, which is no victim
+  -- not for the node that was refused, which is no strand; nor for the block around both, which is no victim
   pub no_strand : WritesTwice refused_alone (Budget 7) → ⊥
   pub victim : WritesTwice (record refused_alone { victim = 1 }) (Budget 0) → ⊥
 
@@ -116,11 +117,11 @@ pub record AtAccess : Type 0 where
 abbrev pub counts : Script
 counts = act (Load 0) (act (Store 0 (pos 1)) (act (Load 0) (act (Shows (pos 1)) done)))
 
--- four nodes, of which the third read this value
+-- four nodes after the root, of which the third read this value
 abbrev pub counted : (value : ℤ) → List Node
 counted value = plain 0 Strand 0 ∷ plain 0 (Read 0 (pos 0)) 1 ∷ plain 0 (Write 0 (pos 1)) 2 ∷ plain 0 (Read 0 value) 3 ∷ plain 0 (Out (pos 1)) 4 ∷ []
 
--- the same, with another output, and with a fork behind it
+-- the same with another output; below, with a fork after it
 abbrev pub shown_otherwise : List Node
 shown_otherwise = plain 0 Strand 0 ∷ plain 0 (Read 0 (pos 0)) 1 ∷ plain 0 (Write 0 (pos 1)) 2 ∷ plain 0 (Read 0 (pos 1)) 3 ∷ plain 0 (Out (pos 2)) 4 ∷ []
 
@@ -133,12 +134,12 @@ Counts t = IsCoherent (scripted counts) (pos 0 ∷ []) 1 t ((met 1 (pos 0) ∷ e
 pub record AtMoves : Type 0 where
   pub holds : Counts (counted (pos 1))
   pub order : items (counted (pos 1)) [] 1 Moves ≡ Does 1 ∷ Does 2 ∷ Does 3 ∷ Does 4 ∷ []
-  -- not with the value that was there before the write, nor with an output or a fork that main did not want
+  -- not with the value from before the write, nor with an output or a fork that main did not want
   pub old_value : Counts (counted (pos 0)) → ⊥
   pub output : Counts shown_otherwise → ⊥
   pub fork : Counts with_fork → ⊥
 
--- Each end: scripts are deep, and a record that came to it is coherent.
+-- each end: scripts are deep, and a record with that end is coherent
 pub record Ends : Type 0 where
   pub deep : AreDeep
   pub fault : AtFault

@@ -1,5 +1,5 @@
--- A small record that is coherent, and is not where one thing is changed. Two strands each have a block that writes one cell; the second
--- one is refused in a block within its block, is rolled back, and does both again.
+-- A small record that is coherent, and is not if one thing is changed. Two strands each have a block that writes one cell. The
+-- second is refused in a block within its block, is rolled back, and does both again.
 use Rattle.std.specs.Prelude.{ℕ, zero, suc, ◌-◌, [], ◌∷◌, pos}
 use Rattle.cw_strand.specs.declared.want.Want.{Want}
 use Rattle.cw_strand.specs.declared.want.Want.TheVariants.{Store, Begin, End, Fork, Sync, Done}
@@ -9,7 +9,7 @@ use Rattle.cw_record.specs.declared.record_end.RecordEnd.{RecordEnd}
 use Rattle.cw_record.specs.declared.record_end.RecordEnd.TheVariants.{Finished}
 use Rattle.cw_record.specs.Coherent.{IsCoherent, HasOutputs}
 
--- main before its fork, each strand of that after so many answers, and main behind it
+-- main before its fork, each strand of the fork after n answers, and main after the fork
 pub data Writer : Type 0 where
   whole : Writer
   left : ℕ → Writer
@@ -43,7 +43,7 @@ next (left n) = left (suc n)
 next (right n) = right (suc n)
 next w = w
 
--- how many forks and answers can follow each other
+-- how many forks and answers can still follow
 abbrev pub left_over : Writer → ℕ
 left_over whole = 9
 left_over (left n) = 3 - n
@@ -68,7 +68,8 @@ IsRecord e = IsCoherent writers (pos 0 ∷ []) 2 two_blocks (two_writes ∷ []) 
 abbrev pub HasThese : RecordEnd → Type 0
 HasThese e = HasOutputs two_blocks (refused_write ∷ []) 2 e
 
--- Its strands keep the law, and it is coherent, with its outputs. Not with another memory, nor with an output that nobody made.
+-- Its strands keep the law, and it is coherent, with its outputs. It is not with another memory, nor with an output that nobody
+-- made.
 pub record Coherent : Type 0 where
   pub lawful : IsLawful writers
   pub holds : IsRecord (Finished (pos 2 ∷ []) [])

@@ -18,18 +18,18 @@ use cw_serial::{SerialEnd, serial};
 use cw_tree::{Name, Picks, Tree};
 use std::alloc::Global;
 
-/// What a check of a record says. `cell` is a cell's number where the memories differ there, and then `kept` and `replayed` are its two
-/// values. Else it is the number of cells: then they are the first outputs that differ, or the variants of the two ends, from 0 on in
-/// the order of `RecordEnd`, with 4 as `replayed` where the variant of the replay's end tells nothing.
+/// What a check of a record says. If the memories differ, `cell` is the number of a cell, and `kept` and `replayed` are its two
+/// values. Otherwise `cell` is the number of cells. Then the two are the first outputs that differ, or the variants of the two
+/// ends, from 0 on in the order of `RecordEnd`, with 4 as `replayed` if the variant of the replay's end tells nothing.
 #[derive(Clone, Copy, PartialEq, Eq, Debug)]
 pub enum Checked {
     Agrees,
     Disagree { cell: u32, kept: i64, replayed: i64 },
 }
 
-/// Replays a record by the machine with one memory. It agrees exactly where the order is that of the record's tree, conflicts and end,
-/// the machine does at each pick what the tree has there, and comes to the same end. More than 4,294,967,295 cells, strands or picks
-/// are answered as want of memory.
+/// Replays a record by the machine with one memory. It agrees exactly if the order is that of the record's tree, conflicts and end,
+/// the machine does at each pick what the tree has there, and ends as the record ends. More than 4,294,967,295 cells, strands or
+/// picks fail as out of memory.
 pub fn check(alloc: Global, kept: &Record) -> Result<Checked, OutOfMemory>
     requires { TakesWords kept.now.program (length kept.now.words) }
     ensures { IfOk result (λ c. IsCheckOf kept.now c) }
@@ -52,7 +52,7 @@ pub fn check(alloc: Global, kept: &Record) -> Result<Checked, OutOfMemory>
     difference(cells, &kept.end, &end)
 }
 
-/// Whether a record replays, where this is the machine's end under its order.
+/// Returns whether a record replays, given the machine's end under its order.
 fn replays(alloc: Global, kept: &Record, end: &SerialEnd) -> Result<bool, OutOfMemory>
     requires words { TakesWords kept.now.program (length kept.now.words) }
     requires end { end.now ≡ end_under (job_of_record kept.now) kept.now.order }
@@ -76,7 +76,7 @@ fn replays(alloc: Global, kept: &Record, end: &SerialEnd) -> Result<bool, OutOfM
     does_all(alloc, kept)
 }
 
-/// Whether the strand that an end names is one of the tree.
+/// Returns whether the strand that an end names is a strand of the tree.
 fn names_strand(tree: &Tree, end: &RecordEnd) -> bool
     ensures { result ≡ is_strand tree.now (ending_strand end.now) }
 {
@@ -84,7 +84,7 @@ fn names_strand(tree: &Tree, end: &RecordEnd) -> bool
     (strand as usize) < tree.nodes().len() && tree.is_strand(strand)
 }
 
-/// Whether the kept end and the machine's end under these picks are the same.
+/// Returns whether the kept end and the machine's end under these picks are the same.
 fn is_same_end(kept: &RecordEnd, picks: &Picks, end: &SerialEnd) -> bool
     ensures { IsTrue result ↔ SameEnd kept.now picks.now end.now }
 {
@@ -109,7 +109,7 @@ fn is_same_end(kept: &RecordEnd, picks: &Picks, end: &SerialEnd) -> bool
     }
 }
 
-/// Whether two orders are the same.
+/// Returns whether two orders are the same.
 fn same_picks(a: &Picks, b: &Picks) -> bool
     ensures { IsTrue result ↔ (a.now ≡ b.now) }
 {
@@ -136,7 +136,7 @@ fn same_names(a: &[Name], b: &[Name]) -> bool
     a == b
 }
 
-/// The first difference of two ends, where there are so many cells.
+/// Returns the first difference of two ends, for a memory of `cells` cells.
 fn difference(cells: u32, kept: &RecordEnd, end: &SerialEnd) -> Result<Checked, OutOfMemory>
     ensures { IfOk result (λ c. c ≡ difference cells kept.now end.now) }
 {
@@ -166,7 +166,7 @@ fn difference(cells: u32, kept: &RecordEnd, end: &SerialEnd) -> Result<Checked, 
     })
 }
 
-/// The values at a place at which two lists differ, told of a cell.
+/// Returns the values at `place`, where two lists differ, as a difference at `cell`.
 fn told(cell: u32, place: usize, kept: &[i64], replayed: &[i64]) -> Checked
     ensures { result ≡ Disagree cell (value_at kept.now place) (value_at replayed.now place) }
 {
@@ -177,14 +177,14 @@ fn told(cell: u32, place: usize, kept: &[i64], replayed: &[i64]) -> Checked
     }
 }
 
-/// The first place at which two lists differ, of those that both have.
+/// Returns the first position at which two lists differ, among those that both have.
 fn first_difference(kept: &[i64], replayed: &[i64]) -> Option<usize>
     ensures { result ≡ first_difference kept.now replayed.now }
 {
     kept.iter().zip(replayed.iter()).position(|(k, r)| k != r)
 }
 
-/// Which variant an end is.
+/// Returns the number of an end's variant.
 fn variant(end: &RecordEnd) -> i64
     ensures { result ≡ pos (variant end.now) }
 {
@@ -196,7 +196,7 @@ fn variant(end: &RecordEnd) -> i64
     }
 }
 
-/// The variant that a replay came to, where it is another one, or else 4.
+/// Returns the replay's variant if it differs from the record's, otherwise 4.
 fn other_variant(kept: &RecordEnd, end: &SerialEnd) -> i64
     ensures { result ≡ pos (other_variant kept.now end.now) }
 {

@@ -8,7 +8,7 @@ use cw_code::Back;
 use cw_tree::{BlockState, Entry, Kind, Mark, Tree};
 use std::alloc::Global;
 
-/// What one worker draws of its run: the tree, the place where the next node goes, the last stamp, and the journals.
+/// What one worker draws of its run: the tree, the place of the next node, the last stamp, and the journals.
 #[derive(Drop)]
 pub(crate) struct Drawing {
     pub(crate) tree: Tree,
@@ -18,7 +18,7 @@ pub(crate) struct Drawing {
 }
 
 impl Drawing {
-    /// The root strand alone, and an empty journal for each of so many elements.
+    /// Returns a drawing of the root strand alone, with an empty journal for each of `elements` elements.
     pub(crate) fn begin(alloc: Global, elements: usize) -> Result<Drawing, OutOfMemory>
         ensures { IfOk result (λ d. drawn d ≡ blank elements) }
     {
@@ -34,7 +34,7 @@ impl Drawing {
         })
     }
 
-    /// Adds a node at the place, with the next stamp.
+    /// Adds a node at the place, with the next stamp, and returns its number.
     fn add(&mut self, kind: Kind) -> Result<u32, OutOfMemory>
         requires { self.old.place < length self.old.tree }
         ensures number { IfOk result (λ n. n ≡ length self.old.tree) }
@@ -44,7 +44,7 @@ impl Drawing {
         self.tree.add(self.place, kind, stamp)
     }
 
-    /// The next stamp. There are far fewer nodes than stamps; one past the last is answered as want of memory.
+    /// Returns the next stamp. There are far fewer nodes than stamps; past the last stamp it fails as out of memory.
     fn next_stamp(&mut self) -> Result<u64, OutOfMemory>
         ensures stamp { IfOk result (λ s. s ≡ self.old.clock + 1) }
         ensures drawing { IfOk result (λ s. self.new ≡ record self.old { clock = s }) }
@@ -56,7 +56,7 @@ impl Drawing {
         Ok(stamp)
     }
 
-    /// Adds an entry of the newest access to the journal of its element, where that is there.
+    /// Adds an entry for the newest access to the journal of `cell`, if there is one.
     fn note(&mut self, cell: u32, wrote: bool, value: i64, old: i64) -> Result<(), OutOfMemory>
         ensures { OnOk result (drawn self.new ≡ after_entry cell wrote value old (drawn self.old)) }
     {
@@ -75,7 +75,7 @@ impl Drawing {
         Ok(())
     }
 
-    /// A read of an element, which gave this value.
+    /// Draws a read of `cell`, which gave `value`.
     pub(crate) fn reads(&mut self, cell: u32, value: i64) -> Result<(), OutOfMemory>
         requires { self.old.place < length self.old.tree }
         ensures { OnOk result (drawn self.new ≡ after_read cell value (drawn self.old)) }
@@ -84,7 +84,7 @@ impl Drawing {
         self.note(cell, false, value, value)
     }
 
-    /// A write of a value to an element, which had the old one.
+    /// Draws a write of `value` to `cell`, which had the value `old`.
     pub(crate) fn writes(&mut self, cell: u32, value: i64, old: i64) -> Result<(), OutOfMemory>
         requires { self.old.place < length self.old.tree }
         ensures { OnOk result (drawn self.new ≡ after_write cell value old (drawn self.old)) }
@@ -93,7 +93,7 @@ impl Drawing {
         self.note(cell, true, value, old)
     }
 
-    /// An output.
+    /// Draws an output.
     pub(crate) fn outputs(&mut self, value: i64) -> Result<(), OutOfMemory>
         requires { self.old.place < length self.old.tree }
         ensures { OnOk result (drawn self.new ≡ after_node (Out value) (drawn self.old)) }
@@ -102,7 +102,7 @@ impl Drawing {
         Ok(())
     }
 
-    /// A block is given up, and this is what is put back.
+    /// Draws that a block is given up, and that `back` is what is put back.
     pub(crate) fn cancels(&mut self, alloc: Global, back: &Seq<Back>) -> Result<(), OutOfMemory>
         requires { self.old.place < length self.old.tree }
         ensures { OnOk result (drawn self.new ≡ after_node (Cancel back.now) (drawn self.old)) }
@@ -112,7 +112,7 @@ impl Drawing {
         Ok(())
     }
 
-    /// A block begins: the next node goes into it.
+    /// Draws the begin of a block. The next node goes into it.
     pub(crate) fn begins(&mut self) -> Result<(), OutOfMemory>
         requires { self.old.place < length self.old.tree }
         ensures { OnOk result (drawn self.new ≡ after_begin (drawn self.old)) }
@@ -122,7 +122,7 @@ impl Drawing {
         Ok(())
     }
 
-    /// The block at the place ends, and is committed.
+    /// Draws the end of the block at the place, which is committed.
     pub(crate) fn ends(&mut self) -> Result<(), OutOfMemory>
         requires { IsTrue (is_block self.old.tree self.old.place) }
         ensures { OnOk result (drawn self.new ≡ after_end (drawn self.old)) }
@@ -134,7 +134,7 @@ impl Drawing {
         Ok(())
     }
 
-    /// A fork: the next node goes into its left strand. Answers the node of the fork.
+    /// Draws a fork. The next node goes into its left strand. Returns the node of the fork.
     pub(crate) fn forks(&mut self) -> Result<u32, OutOfMemory>
         requires { self.old.place < length self.old.tree }
         ensures fork { IfOk result (λ f. f ≡ length self.old.tree) }
@@ -145,7 +145,7 @@ impl Drawing {
         Ok(fork)
     }
 
-    /// A strand of a fork starts: the next node goes into it.
+    /// Draws the start of a strand of `fork`. The next node goes into it.
     pub(crate) fn starts(&mut self, fork: u32) -> Result<(), OutOfMemory>
         requires { fork < length self.old.tree }
         ensures { OnOk result (drawn self.new ≡ after_start fork (drawn self.old)) }
@@ -154,7 +154,7 @@ impl Drawing {
         Ok(())
     }
 
-    /// Both strands of a fork have ended: the next node goes behind it.
+    /// Draws that both strands of `fork` have ended. The next node goes after it.
     pub(crate) fn joins(&mut self, fork: u32)
         requires { fork < length self.old.tree }
         ensures { drawn self.new ≡ after_join fork (drawn self.old) }

@@ -13,8 +13,8 @@ use cw_job::first_memory;
 use cw_tree::{Closed, Entry, Halt, Kind, Tree};
 use std::alloc::Global;
 
-/// How a closed run ended: as it was stopped, or else its moves were spent, or else it finished. What it left is still to come: the order
-/// of a run that finished does not hang on it.
+/// Returns how a closed run ended: as it was stopped; otherwise its moves were spent; otherwise it finished. What it left is filled
+/// in later: the order of a run that finished does not depend on it.
 pub(crate) fn end_told(alloc: Global, closed: &Closed, spent: bool) -> RecordEnd
     requires { HasRecord closed.now.tree closed.now.halt }
     ensures { result ≡ end_after closed.now.halt spent [] [] }
@@ -31,7 +31,7 @@ pub(crate) fn end_told(alloc: Global, closed: &Closed, spent: bool) -> RecordEnd
     }
 }
 
-/// This end of a closed run with these items, with what the run left where it finished.
+/// Returns the end `told` of a closed run with these items. If the run finished, the end has what the run left.
 pub(crate) fn end_left(
     alloc: Global,
     program: &Program,
@@ -54,7 +54,7 @@ pub(crate) fn end_left(
     }
 }
 
-/// The memory of a run that finished: each cell's value after its journal.
+/// Returns the memory of a run that finished: each cell's value after its journal.
 fn memory_left(
     alloc: Global,
     program: &Program,
@@ -71,7 +71,7 @@ fn memory_left(
     Ok(Seq::from_vec(memory))
 }
 
-/// What a cell that had this value holds after its journal.
+/// Returns the value of a cell after its journal, if it had the value `first` before.
 fn value_left(first: i64, journal: &[Entry]) -> i64
     ensures { result ≡ value_left first journal.now }
 {
@@ -81,7 +81,7 @@ fn value_left(first: i64, journal: &[Entry]) -> i64
     }
 }
 
-/// The outputs among the items of a run, in their order.
+/// Returns the outputs among the items of a run, in their order.
 fn outputs_left(alloc: Global, tree: &Tree, items: &[OrderItem]) -> Result<Seq<i64>, OutOfMemory>
     requires { All (λ i. node_of i < length tree.now) items.now }
     ensures { IfOk result (λ vs. vs ≡ outputs_shown tree.now items.now) }

@@ -33,7 +33,7 @@ impl Listed {
         }
     }
 
-    // The same, also where strands have the same name.
+    // Returns the names and numbers, also if strands have the same name.
     fn of_any_tree(alloc: Global, tree: &Tree) -> Result<Listed, OutOfMemory>
         ensures names { IfOk result (λ l. l.names.items ≡ listed_names tree.now) }
         ensures numbers { IfOk result (λ l. l.numbers.items ≡ map (λ n. strand_number tree.now (strand_of tree.now n)) (all_nodes tree.now)) }
@@ -53,7 +53,7 @@ impl Listed {
     }
 }
 
-// A name by the first node with the name that it goes on from, and its last turn.
+// A name, given by the first node with the name that it extends, and by its last turn.
 type NameStep = (u32, u32, bool);
 
 /// The numbers of forks and the sides of strands, by their nodes.
@@ -74,7 +74,7 @@ impl Turns {
         })
     }
 
-    // The step down to a strand.
+    // Returns the step down to `strand`.
     fn at(&self, tree: &Tree, strand: u32) -> Turn
         requires there { strand < length tree.now }
         requires child { 0 < strand }
@@ -88,7 +88,7 @@ impl Turns {
         }
     }
 
-    // A strand by the number of the strand that forked it.
+    // Returns the listed name of `strand`, which has the number of the strand that forked it.
     fn listed_name(&self, tree: &Tree, numbers: &[u32], strand: u32) -> Name
         requires there { strand < length tree.now }
         requires forks { self.now.forks.items ≡ map (fork_number tree.now) (all_nodes tree.now) }
@@ -112,7 +112,7 @@ impl Turns {
         }
     }
 
-    // For each node the first node with the same name.
+    // Returns for each node the first node with the same name.
     fn same_names(&self, alloc: Global, tree: &Tree) -> Result<Vec<u32>, OutOfMemory>
         requires forks { self.now.forks.items ≡ map (fork_number tree.now) (all_nodes tree.now) }
         requires sides { self.now.sides.items ≡ map (is_right tree.now) (all_nodes tree.now) }
@@ -133,7 +133,7 @@ impl Turns {
     }
 }
 
-// The first strand that was put at a step, which is this one where there was none.
+// Returns the first strand that was put at `step`, which is `strand` if there was none before.
 fn first_at(
     strands: &mut BTreeMap<NameStep, u32>,
     step: NameStep,
@@ -149,7 +149,8 @@ fn first_at(
     Ok(strand)
 }
 
-/// The strands whose names no earlier strand has, and for each node that is the first with its name the place of that name among them.
+/// The strands whose names no earlier strand has. Also, for each node that is the first with its name, the position of that name
+/// among them.
 #[derive(Drop)]
 struct Firsts {
     strands: Vec<u32>,
@@ -178,7 +179,7 @@ impl Firsts {
         })
     }
 
-    // The number of a name, by the first node that has it.
+    // Returns the number of a name, by the first node that has it.
     fn number(&self, first: u32) -> u32
         requires { first < length self.now.places.items }
         ensures { result ≡ unwrap_or (slice_index_or self.now.places.items first None) (length self.now.strands.items) }

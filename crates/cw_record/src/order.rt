@@ -11,10 +11,10 @@ use cw_base::{OutOfMemory, Seq};
 use cw_tree::{Conflict, Picks, Tree};
 use std::alloc::Global;
 
-/// The order of a run, whose budget is `aborts` attempts: at the root and in each block its accesses, outputs and cancels by their
-/// stamps, its committed blocks by the stamps of their ends, each as its begin, what is in it, and its end; at the place where an unfinished run
-/// ended, the pending blocks last. Each is a pick of the strand that did it. Strands have the same name as in an attempt that was
-/// rolled back. Nodes with equal stamps stand by their numbers.
+/// Returns the order of a run whose budget is `aborts` attempts: for each item a pick of the strand that did it. At the root and in
+/// each block, accesses, outputs and cancels come by their stamps, committed blocks by the stamps of their ends. A block appears as
+/// its begin, what is in it, and its end. At the place where an unfinished run ended, the pending blocks come last. Strands have
+/// the same names as in an attempt that was rolled back. Nodes with equal stamps come by their numbers.
 pub fn order_of(
     alloc: Global,
     tree: &Tree,
@@ -29,7 +29,7 @@ pub fn order_of(
     order_through(alloc, tree, items.as_slice(), end)
 }
 
-/// The order of a run of these items.
+/// Returns the order of a run with these items.
 pub(crate) fn order_through(
     alloc: Global,
     tree: &Tree,
@@ -52,7 +52,7 @@ pub(crate) fn order_through(
     })
 }
 
-/// The strand that an end names, or the root.
+/// Returns the strand that an end names, or the root.
 pub(crate) fn ending_strand(end: &RecordEnd) -> u32
     ensures { result ≡ ending_strand end.now }
 {
@@ -62,7 +62,7 @@ pub(crate) fn ending_strand(end: &RecordEnd) -> u32
     }
 }
 
-/// The pick of each item.
+/// Returns the pick of each item.
 fn picks(
     alloc: Global,
     tree: &Tree,

@@ -11,9 +11,9 @@ use cw_base::OutOfMemory;
 use cw_tree::{Name, Tree};
 use std::alloc::Global;
 
-/// The names and numbers of a tree's strands, where it is plain: its nodes are numbered depth first, each fork has two strands at most
-/// right beneath it and nothing else, no strand but the root stands elsewhere, and no fork was rolled back. Then no two strands have the
-/// same name, and one pass over the nodes is enough.
+/// Returns the names and numbers of a tree's strands if the tree is plain, otherwise `None`. In a plain tree nodes are numbered
+/// depth first, each fork has at most two strands directly beneath it and nothing else, no strand except the root is anywhere else,
+/// and no fork was rolled back. Then no two strands have the same name, and one pass over the nodes is enough.
 pub(crate) fn listed_plain(alloc: Global, tree: &Tree) -> Result<Option<Listed>, OutOfMemory>
     ensures names { IfOk result (λ r. IfSome r (λ l. l.names.items ≡ listed_names tree.now)) }
     ensures numbers { IfOk result (λ r. IfSome r (λ l. l.numbers.items ≡ map (λ n. strand_number tree.now (strand_of tree.now n)) (all_nodes tree.now))) }
@@ -39,12 +39,12 @@ struct Pass {
     forks: Vec<u32>,
     // for each node the number of its strand
     numbers: Vec<u32>,
-    // the outermost attempt around the last node that was rolled back, or the next number where there is none
+    // the outermost rolled-back attempt around the last node, or the number of the next node if there is none
     undone: u32,
 }
 
 impl Pass {
-    // The root alone.
+    // Returns a pass over the root alone.
     fn of_root(alloc: Global, tree: &Tree) -> Result<Pass, OutOfMemory>
         ensures passed { IfOk result (λ pass. IsPassed tree.now 1 pass.names.items pass.forks.items pass.numbers.items) }
         ensures undone { IfOk result (λ pass. UndoneAt tree.now 0 pass.undone) }
@@ -67,7 +67,7 @@ impl Pass {
         })
     }
 
-    // One node more. False where the tree is not plain at it.
+    // Adds node `n`. Returns false if the tree is not plain at it.
     fn add(&mut self, tree: &Tree, n: u32) -> Result<bool, OutOfMemory>
         requires there { n < length tree.now }
         requires child { 0 < n }
@@ -133,7 +133,7 @@ impl Pass {
     }
 }
 
-// Whether a node right beneath a fork is a strand, and the first or the second node there.
+// Returns whether node `n`, directly beneath a fork, is a strand, and the first or the second node there.
 fn is_side(tree: &Tree, n: u32) -> bool
     requires there { n < length tree.now }
     requires child { 0 < n }
@@ -144,7 +144,7 @@ fn is_side(tree: &Tree, n: u32) -> bool
     tree.is_strand(n) && (first == n || tree.ancestor(first, n - 1))
 }
 
-// Whether a node that is not right beneath a fork is no strand, and no fork that was rolled back.
+// Returns whether node `n`, not directly beneath a fork, is neither a strand nor a fork that was rolled back.
 fn is_kept(tree: &Tree, n: u32, undone: u32) -> bool
     requires there { n < length tree.now }
     requires undone { UndoneAt tree.now n undone }
@@ -156,7 +156,7 @@ fn is_kept(tree: &Tree, n: u32, undone: u32) -> bool
     !tree.is_strand(n) && (n < undone || !tree.is_fork(n))
 }
 
-// The outermost attempt around a node that was rolled back, or the next number where there is none, from that around the node before it.
+// Returns the outermost rolled-back attempt around node `n`, or `n + 1` if there is none. `before` is the same for node `n - 1`.
 fn undone_at(tree: &Tree, n: u32, before: u32) -> u32
     requires there { n < length tree.now }
     requires child { 0 < n }

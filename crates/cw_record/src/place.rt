@@ -10,7 +10,7 @@ use cw_base::OutOfMemory;
 use cw_tree::{Conflict, Tree};
 use std::alloc::Global;
 
-/// Where a run came to its end.
+/// Returns the place where a run ended.
 pub(crate) fn place_of_end(
     alloc: Global,
     tree: &Tree,
@@ -34,7 +34,7 @@ pub(crate) fn place_of_end(
     }
 }
 
-// For each node the strand in which it stands.
+// Returns for each node the strand that it belongs to.
 fn strands(alloc: Global, tree: &Tree) -> Result<Vec<u32>, OutOfMemory>
     ensures { IfOk result (λ ss. ss.items ≡ map (strand_of tree.now) (all_nodes tree.now)) }
 {
@@ -47,7 +47,7 @@ fn strands(alloc: Global, tree: &Tree) -> Result<Vec<u32>, OutOfMemory>
     Ok(strands)
 }
 
-// The strand of one node, from those of the nodes before it.
+// Returns the strand of node `n`, from the strands of the nodes before it.
 fn strand(tree: &Tree, before: &[u32], n: u32) -> u32
     requires there { n < length tree.now }
     requires before { before.now ≡ map (strand_of tree.now) (below n) }
@@ -60,7 +60,7 @@ fn strand(tree: &Tree, before: &[u32], n: u32) -> u32
     }
 }
 
-// Where the next node of a strand would go.
+// Returns the place of the next node of `strand`.
 fn place(tree: &Tree, strands: &[u32], strand: u32) -> u32
     requires { strands.now ≡ map (strand_of tree.now) (all_nodes tree.now) }
     ensures { result ≡ place tree.now strand }
@@ -75,7 +75,7 @@ fn place(tree: &Tree, strands: &[u32], strand: u32) -> u32
     strand
 }
 
-// The last node that a strand made.
+// Returns the last node that `strand` made.
 fn last_of(tree: &Tree, strands: &[u32], strand: u32) -> u32
     requires { strands.now ≡ map (strand_of tree.now) (all_nodes tree.now) }
     ensures { result ≡ last_of tree.now strand }
@@ -90,7 +90,8 @@ fn last_of(tree: &Tree, strands: &[u32], strand: u32) -> u32
     strand
 }
 
-// Where a strand spent its budget: the place of what the first conflict that tells so refused, or the root.
+// Returns where `strand` spent its budget: the place of what was refused by the first conflict that tells so, or the root if there
+// is none.
 fn place_of_budget(
     tree: &Tree,
     strands: &[u32],
@@ -109,7 +110,7 @@ fn place_of_budget(
     }
 }
 
-/// The first conflict that tells that a strand has spent its budget.
+/// Returns the first conflict that tells that `strand` has spent its budget.
 pub(crate) fn telling<'c>(
     alloc: Global,
     tree: &Tree,
@@ -123,7 +124,7 @@ pub(crate) fn telling<'c>(
     Ok(told_by(tree, strands.as_slice(), conflicts, budget, strand))
 }
 
-// The same, from the strands of the nodes.
+// Returns the same, given the strand of each node.
 fn told_by<'c>(
     tree: &Tree,
     strands: &[u32],
@@ -143,7 +144,7 @@ fn told_by<'c>(
     None
 }
 
-// Whether a conflict of the right attempt tells that a strand, with this last node, has spent its budget.
+// Returns whether a conflict of the right attempt tells that `strand`, whose last node is `last`, has spent its budget.
 fn tells(tree: &Tree, strands: &[u32], last: u32, strand: u32, conflict: &Conflict) -> bool
     requires strands { strands.now ≡ map (strand_of tree.now) (all_nodes tree.now) }
     requires last { last ≡ last_of tree.now strand }
@@ -158,7 +159,7 @@ fn tells(tree: &Tree, strands: &[u32], last: u32, strand: u32, conflict: &Confli
     }
 }
 
-// The place of what a conflict refused.
+// Returns the place of what a conflict refused.
 fn place_of_refused(tree: &Tree, conflict: &Conflict) -> u32
     requires { 0 < length tree.now }
     ensures { result ≡ place_of_refused tree.now conflict.now }
@@ -169,7 +170,7 @@ fn place_of_refused(tree: &Tree, conflict: &Conflict) -> u32
     tree.parent(block_with_stamp(tree, conflict.victim).unwrap_or(0))
 }
 
-// The block that was begun at a stamp.
+// Returns the block that was begun at `stamp`.
 fn block_with_stamp(tree: &Tree, stamp: u64) -> Option<u32>
     ensures result { result ≡ block_with_stamp tree.now stamp }
     ensures there { IfSome result (λ b. b < length tree.now) }

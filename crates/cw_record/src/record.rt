@@ -36,8 +36,8 @@ pub struct Record {
     pub end: RecordEnd,
 }
 
-/// The run of one worker: depth first, the left strand of each fork before the right one. It ends by itself or at the first
-/// fault.
+/// Runs a program with one worker: depth first, the left strand of each fork before the right one. The run ends by itself or at the
+/// first fault.
 pub fn depth_first(
     alloc: Global,
     program: Program,
@@ -79,12 +79,12 @@ pub fn depth_first(
     })
 }
 
-/// The record of a run that was closed, of a job that it was a run of: what was run, what is left of it, and beside that its order
-/// and its end. `spent` says that the moves of the run were used up before main had ended; where it was stopped it ended so all the
-/// same. A run that finished has the memory that its journals leave, and the outputs of its output nodes, in its order.
+/// Returns the record of a closed run of a job: what was run, what is left of it, its order and its end. `spent` says that the
+/// moves of the run were used up before main had ended; if the run was stopped, it ended by that all the same. A run that finished
+/// has the memory that its journals leave, and the outputs of its output nodes, in its order.
 ///
-/// A run that was stopped for want of memory has no record, and a strand at which one was stopped has to be one of the tree. The
-/// only error is want of memory.
+/// A run that was stopped because memory ran out has no record. If a run was stopped at a strand, the strand has to be one of the
+/// tree. The only error is out of memory.
 pub fn build(
     alloc: Global,
     program: Program,
@@ -108,7 +108,7 @@ pub fn build(
     ensures coherent { IfOk result (λ r. (m : OpenMachine) (h : Option Halt) →
         IsLeftBy (record { program = program; words = words; limits = limits }) spent m h closed → IsCoherentRun r) }
 
-    // and so is what may be left by strands of the program, however they were run
+    // and so is whatever strands of the program may leave, however they were run
     ensures followed { IfOk result (λ r.
         AreLeft (strands_of_job (record { program = program; words = words; limits = limits })) (first_memory program.cells) limits.aborts spent closed → IsCoherentRun r) }
     ensures numbered { IfOk result (λ r. (t : List Node) →

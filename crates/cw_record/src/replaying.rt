@@ -22,7 +22,8 @@ use cw_strand::Want;
 use cw_tree::{Conflict, Kind, Tree};
 use std::alloc::Global;
 
-/// Whether the machine does at each pick what the tree has there, and then a strand that spent its budget stands at what was refused.
+/// Returns whether the machine does at each pick what the tree has there, and whether a strand that spent its budget then is at
+/// what was refused.
 pub(crate) fn does_all(alloc: Global, kept: &Record) -> Result<bool, OutOfMemory>
     requires words { TakesWords kept.now.program (length kept.now.words) }
     requires strand { IsTrue (is_strand kept.now.tree (ending_strand kept.now.end)) }
@@ -79,7 +80,7 @@ pub(crate) fn does_all(alloc: Global, kept: &Record) -> Result<bool, OutOfMemory
     is_spent(alloc, kept, want?)
 }
 
-/// What the machine puts back where a strand wants to give up its block; nothing where it wants anything else.
+/// Returns what the machine puts back if `want` gives up a block, otherwise nothing.
 fn put_back(alloc: Global, play: &Play, want: Option<Want>) -> Result<Seq<Back>, OutOfMemory>
     ensures { IfOk result (λ list. (job : Job) (names : List Name) (m : Machine StrandState) → IsPlay job names play.now m →
         want ≡ Some Cancel → given_up m.since ≡ list) }
@@ -90,7 +91,8 @@ fn put_back(alloc: Global, play: &Play, want: Option<Want>) -> Result<Seq<Back>,
     }
 }
 
-/// Whether a want is what the tree has at an item, where the machine has this memory, and a block that is given up puts this back.
+/// Returns whether `want` is what the tree has at `item`, if the machine has this memory, and if `back` is what a block that is
+/// given up puts back.
 fn is_item(
     tree: &Tree,
     memory: &[i64],
@@ -109,7 +111,7 @@ fn is_item(
     }
 }
 
-/// Whether a want that is answered from this memory, or by this list, is a node of this kind.
+/// Returns whether `want`, answered from this memory or by the list `back`, is a node of this kind.
 fn is_act(memory: &[i64], back: &Seq<Back>, want: Option<Want>, kind: &Kind) -> bool
     ensures { (since : List Since) → (want ≡ Some Cancel → given_up since ≡ back.now) →
         IsTrue result ↔ IsSomeAnd want (λ w. IsAct memory.now since w kind.now) }
@@ -136,7 +138,7 @@ fn same_backs(a: &[Back], b: &[Back]) -> bool
     a == b
 }
 
-/// Whether the last strand, which wants this, stands at what was refused, where it has spent its budget.
+/// Returns whether the last strand, which wants `want`, is at what was refused, if it spent its budget. Otherwise returns true.
 fn is_spent(alloc: Global, kept: &Record, want: Option<Want>) -> Result<bool, OutOfMemory>
     ensures { IfOk result (λ b. IsTrue b ↔ WantsRefused kept.now kept.now.end want) }
 {
@@ -151,7 +153,7 @@ fn is_spent(alloc: Global, kept: &Record, want: Option<Want>) -> Result<bool, Ou
     }
 }
 
-/// Whether a want is what a conflict refused.
+/// Returns whether `want` is what a conflict refused.
 fn is_refused(conflict: &Conflict, want: Option<Want>) -> bool
     ensures { IsTrue result ↔ IsSomeAnd want (WantsAgain conflict.now) }
 {

@@ -7,7 +7,7 @@ use cw_base::OutOfMemory;
 use cw_tree::Tree;
 use std::alloc::Global;
 
-/// The strands of a tree, depth first.
+/// Returns the strands of a tree, depth first.
 pub(crate) fn strands(alloc: Global, tree: &Tree) -> Result<Vec<u32>, OutOfMemory>
     ensures { IfOk result (λ found. found.items ≡ filter (is_strand tree.now) (depth_first tree.now)) }
 {
@@ -18,7 +18,7 @@ pub(crate) fn strands(alloc: Global, tree: &Tree) -> Result<Vec<u32>, OutOfMemor
     }
 }
 
-// The strands by their numbers.
+// Returns the strands by their numbers.
 fn by_numbers(alloc: Global, tree: &Tree) -> Result<Vec<u32>, OutOfMemory>
     ensures { IfOk result (λ found. found.items ≡ filter (is_strand tree.now) (all_nodes tree.now)) }
 {
@@ -31,7 +31,7 @@ fn by_numbers(alloc: Global, tree: &Tree) -> Result<Vec<u32>, OutOfMemory>
     Ok(found)
 }
 
-// The strands as a walk comes to them.
+// Returns the strands in the order of a depth-first walk.
 fn by_walk(alloc: Global, tree: &Tree) -> Result<Vec<u32>, OutOfMemory>
     ensures { IfOk result (λ found. found.items ≡ filter (is_strand tree.now) (depth_first tree.now)) }
 {
@@ -47,7 +47,7 @@ fn by_walk(alloc: Global, tree: &Tree) -> Result<Vec<u32>, OutOfMemory>
     Ok(found)
 }
 
-// Whether the nodes are numbered depth first.
+// Returns whether the nodes are numbered depth first.
 fn is_in_order(tree: &Tree) -> bool
     ensures { IsTrue result → depth_first tree.now ≡ all_nodes tree.now }
 {
@@ -59,8 +59,8 @@ fn is_in_order(tree: &Tree) -> bool
     true
 }
 
-/// Whether a node hangs from the one before it, or from a node above that one. Where all before it do, those that are passed on the way
-/// up are done with: a node after it hangs from none of them.
+/// Returns whether node `n` hangs from the node before it, or from a node above that one. If all nodes before it do, the nodes
+/// passed on the way up are done: no later node hangs from them.
 pub(crate) fn hangs(tree: &Tree, n: u32) -> bool
     requires there { n < length tree.now }
     requires child { 0 < n }

@@ -27,16 +27,16 @@ use cw_strand::{Given, Want};
 use cw_tree::Tree;
 use std::alloc::Global;
 
-/// A fork on the way down to the strand that is run, with its node.
+/// A fork on the way down to the running strand, with its node.
 #[derive(Drop)]
 pub(crate) enum Branch {
-    /// The left strand is run, and the right one is still to come.
+    /// The left strand runs, and the right one has yet to start.
     Left { fork: u32, right: Standing },
-    /// The right strand is run, and the left one has ended.
+    /// The right strand runs, and the left one has ended.
     Right { fork: u32, left: Standing },
 }
 
-/// One worker: the strand that it runs, at its want, and the forks on the way down to it, the innermost first.
+/// One worker: the strand that it runs, at its want, and the forks on the way down to that strand, innermost first.
 #[derive(Drop)]
 pub(crate) struct Worker<'a> {
     pub(crate) task: Task<'a>,
@@ -56,7 +56,7 @@ pub(crate) struct Run {
 }
 
 impl<'a> Worker<'a> {
-    /// At the first want of main.
+    /// Returns a worker at the first want of main.
     fn begin(
         alloc: Global,
         program: &'a Program,
@@ -157,8 +157,8 @@ impl<'a> Worker<'a> {
         }
     }
 
-    /// Begins or ends the block that the strand wants to begin or to end, or keeps what its write will replace. All blocks are told as those
-    /// of strand 0, for the innermost one that is begun is always that of the strand that is run.
+    /// Begins or ends the block that the strand wants to begin or end, or keeps what its write will replace. All blocks count as
+    /// blocks of strand 0, because the innermost begun block always belongs to the running strand.
     fn follow(&mut self) -> Result<(), OutOfMemory>
         requires done { IsSome (begun_after (want_of_worker self.old) 0 self.old.undo) }
         ensures { OnOk result (FollowsBlocks self.old self.new) }
@@ -169,7 +169,7 @@ impl<'a> Worker<'a> {
         Ok(())
     }
 
-    /// Does what the strand stands at, and goes on to its next want. The blocks were followed before.
+    /// Does what the strand wants, and goes on to its next want. `follow` comes first, for the blocks.
     fn act(&mut self, alloc: Global) -> Result<(), OutOfMemory>
         requires there { self.old.drawing.place < length self.old.drawing.tree }
         requires answered { takes_answer (want_of_worker self.old) ≡ true }
@@ -184,7 +184,7 @@ impl<'a> Worker<'a> {
         self.strand.answer(given, self.task.program)
     }
 
-    /// Does what the strand wants in memory and outputs, and draws it.
+    /// Does what the strand wants in memory and outputs, draws it, and returns the answer.
     fn do_want(&mut self, alloc: Global) -> Result<Given, OutOfMemory>
         requires there { self.old.drawing.place < length self.old.drawing.tree }
         requires answered { takes_answer (want_of_worker self.old) ≡ true }
@@ -240,7 +240,7 @@ impl<'a> Worker<'a> {
         self.branches.push(Branch::Left { fork, right })
     }
 
-    /// Goes on with the right strand of a fork, whose left strand has ended.
+    /// Goes on with the right strand of `fork`, whose left strand has ended.
     fn turn(&mut self, fork: u32, right: Standing) -> Result<(), OutOfMemory>
         requires { fork < length self.old.drawing.tree }
         ensures keeps { OnOk result (SwitchesStrand self.old self.new) }
@@ -253,7 +253,7 @@ impl<'a> Worker<'a> {
         self.branches.push(Branch::Right { fork, left })
     }
 
-    /// Goes on with the strand that forked, where both strands of the fork have ended.
+    /// Goes on with the strand that forked, once both strands of `fork` have ended.
     fn join(&mut self, fork: u32, left: Standing) -> Result<(), OutOfMemory>
         requires there { fork < length self.old.drawing.tree }
         requires stands { IsOf self.old.task.program.now self.old.strand }
@@ -268,7 +268,7 @@ impl<'a> Worker<'a> {
         self.strand.join(left, self.task.program)
     }
 
-    /// The run that has come to the end of main.
+    /// Returns the run, once main has ended.
     fn finished(self) -> Run
         ensures drawing { result.drawing ≡ self.entry.drawing }
         ensures end { result.end ≡ ending.Finished self.entry.memory.items self.entry.outputs.items }
@@ -282,7 +282,7 @@ impl<'a> Worker<'a> {
         }
     }
 
-    /// The run that has come to a fault of the strand. The right strands that were still to come stand in the tree, too.
+    /// Returns the run, once the strand is at a fault. Right strands that have yet to start are in the tree, too.
     fn faulted(self, kind: FaultKind) -> Result<Run, OutOfMemory>
         requires there { self.drawing.place < length self.drawing.tree }
         requires forks { All (λ f. f < length self.drawing.tree) (unstarted self.branches) }
@@ -315,7 +315,7 @@ impl<'a> Worker<'a> {
     }
 }
 
-/// The strand in which a node stands.
+/// Returns the strand that node `n` belongs to.
 fn strand_of(tree: &Tree, n: u32) -> u32
     requires { n < length tree.now }
     ensures { result ≡ strand_of tree.now n }
