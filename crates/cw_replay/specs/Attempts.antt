@@ -9,26 +9,26 @@ use Rattle.cw_tree.specs.Attempts.{tried_cell, same_cell, block_attempt, access_
 use Rattle.cw_tree.specs.Refusals.{Spent, refused_node, telling, victim_of}
 use Rattle.cw_tree.specs.Histories.{IsHistory}
 
--- m is block b or an earlier attempt of it: from m on, all that stands before b in its place was rolled back
+-- m is block b or an earlier attempt at it: from m on, every node before b in its place was rolled back
 pub record IsAttemptOf (t : List Node) (b m : ℕ) : Type 0 where
   pub some : 0 < m
   pub place : parent_of t m ≡ parent_of t b
   pub upto : m ≤ b
   pub rolled_back : (n : ℕ) → parent_of t n ≡ parent_of t b → m ≤ n → n < b → IsTrue (is_aborted t n)
 
--- m is refused access v or an earlier refusal of it: from m on, all that stands before v in its place is a refusal of the same cell
+-- m is refused access v or an earlier refusal of it: from m on, every node before v in its place is a refusal of the same cell
 pub record IsRefusalOf (t : List Node) (v m : ℕ) : Type 0 where
   pub some : 0 < m
   pub place : parent_of t m ≡ parent_of t v
   pub upto : m ≤ v
   pub refused : (n : ℕ) → parent_of t n ≡ parent_of t v → m ≤ n → n < v → IsTrue (same_cell (tried_cell t n) (tried_cell t v))
 
--- for each number from 1 to that of attempts there is a conflict with that attempt number, of which this is true
+-- for each number from 1 to `attempts`, some conflict has that attempt number, and `Is` holds of it
 abbrev pub HasAttempts : (attempts : ℕ) → List Conflict → (Conflict → Type 0) → Type 0
 HasAttempts attempts cs Is = (k : ℕ) → 1 ≤ k → k ≤ attempts → (c : Conflict) × Contains cs c × (c.attempt ≡ k) × Is c
 
--- Where a conflict tells that strand s spent its budget, all attempts at what it refused are recorded: those of a block of s that is pending,
--- or those of the access that is the last in s; that block or access is the last of the attempts.
+-- If a conflict tells that strand s spent its budget, all attempts at what it refused are recorded: those of a pending block of s,
+-- or those of the access that is the last node of s. That block or access is the last of the attempts.
 pub data AreRecorded (t : List Node) (cs : List Conflict) (budget s : ℕ) (told : Conflict) : Type 0 where
   of_block : (b : ℕ) → refused_node t told ≡ b → IsTrue (is_pending t b) → strand_of t b ≡ s → block_attempt t b ≡ budget
       → HasAttempts budget cs (λ c. (m : ℕ) × IsAttemptOf t b m × (victim_of c ≡ Some (stamp_of t m))) → AreRecorded t cs budget s told

@@ -27,12 +27,13 @@ use Rattle.cw_record.specs.ClosedRun.{IsClosedRun, end_after}
 use Rattle.cw_record.specs.Replay.{doer}
 use Rattle.cw_record.specs.Records.{HasEnded, GoesThrough}
 
--- where the run came to its end at place p: each strand to the left of that, or of a stamp, has ended
+-- if the run ended at place p, each strand to the left of p, or of a stamp, has ended
 abbrev pub LeftsHaveEnded : {A : Type 0} → Strands A → List Node → (before after reached : ℕ → A) → (p : ℕ) → Type 0
 LeftsHaveEnded s t before after reached p =
     (x n : ℕ) → IsTrue (is_strand t x) → n < length t → IsLeftOf t x n → (0 < stamp_of t n) ⊎ (n ≡ p) → StrandEnded s t before after reached x
 
--- What a record keeps is coherent, and in its run left strands went first: what stands to the left of a stamp is older, and has ended.
+-- What a record keeps is coherent, and left strands went first in its run: everything to the left of a stamp is older, and has
+-- ended.
 pub record WentLeftFirst {A : Type 0} (s : Strands A) (first : List ℤ) (budget : ℕ) (t : List Node) (kept : List (List Entry)) (cs : List Conflict) (e : RecordEnd) : Type 0 where
   pub history : IsHistory t first kept cs
   pub faulted : MayFault t (halt_of e)
@@ -40,7 +41,7 @@ pub record WentLeftFirst {A : Type 0} (s : Strands A) (first : List ℤ) (budget
   pub older : LeftsAreOlder t
   pub strands : (before after reached : ℕ → A) × Follows s t before after reached × EndStands s t before after reached e × LeftsHaveEnded s t before after reached (place_of_end t cs budget e)
 
--- Where such a run ended by itself, or at a fault, its order is the depth-first one.
+-- If such a run ended by itself or at a fault, its order is the depth-first one.
 abbrev pub LeftFirstIsDepthFirst : Type 0
 LeftFirstIsDepthFirst =
     (job : Job) (budget : ℕ) (t : List Node) (kept : List (List Entry)) (cs : List Conflict) (e : RecordEnd)
@@ -49,15 +50,16 @@ LeftFirstIsDepthFirst =
 
 -- ## Closed runs
 
--- the machine of a run in which left strands went first, and which was stopped so or not at all: no access was refused, what stands to the
--- left of a stamp is older, and each strand there has finished, and to the left of one that came to a fault
+-- Left strands went first in a run that left this machine, and that was stopped by h or not at all. No access was refused.
+-- Everything to the left of a stamp is older, and each strand there has finished, as has each strand to the left of one that came
+-- to a fault.
 pub record CameLeftFirst (m : OpenMachine) (h : Option Halt) : Type 0 where
   pub unrefused : m.conflicts ≡ []
   pub older : LeftsAreOlder m.tree
   pub finished : LeftsHaveFinished m
   pub faulted : (x : ℕ) (kind : FaultKind) → h ≡ Some (Fault x kind) → IsTrue (lefts_have_finished m x)
 
--- The tree of such a closed run in depth-first order, with its journals, is that of a run in which left strands went first.
+-- In depth-first order, the tree of such a closed run, with its journals, is that of a run in which left strands went first.
 abbrev pub ClosedWentLeftFirst : Type 0 → Type 0
 ClosedWentLeftFirst A =
     (s : Strands A) (first : List ℤ) (budget : ℕ) (m : OpenMachine) (kept : List (List Entry)) (h : Option Halt) (spent : Bool) (memory outputs : List ℤ)
@@ -66,13 +68,13 @@ ClosedWentLeftFirst A =
 
 -- ## Two runs
 
--- the same end, where strands go by their names
+-- the same end, if strands go by their names
 abbrev pub SameEnding : (t u : List Node) → RecordEnd → RecordEnd → Type 0
 SameEnding t u (Finished memory outputs) (Finished other shown) = (memory ≡ other) × (outputs ≡ shown)
 SameEnding t u (Faulted x kind) (Faulted y other) = (name_of t x ≡ name_of u y) × (kind ≡ other)
 SameEnding t u d e = ⊥
 
--- Two runs of one job whose orders are the depth-first one have the same picks, by their names, and came to the same end.
+-- If the orders of two runs of one job are the depth-first one, the runs have the same picks, by their names, and the same end.
 abbrev pub DepthFirstIsOne : Type 0
 DepthFirstIsOne =
     (job : Job) (t u : List Node) (is js : List OrderItem) (d e : RecordEnd) → GoesThrough job t is d → GoesThrough job u js e → (map (doer t) is ≡ map (doer u) js) × SameEnding t u d e

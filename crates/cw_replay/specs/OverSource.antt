@@ -10,15 +10,15 @@ use Rattle.cw_record.specs.Replay.{Replays}
 use Rattle.cw_record.specs.Records.{IsCoherentRun, IsReplayed}
 use Rattle.cw_replay.specs.Spawning.{any_spawns}
 
--- One memory that runs the strands of this tree, in the order of the record, does what the record says, and comes to its end.
+-- One memory that runs the strands of this syntax tree, in the order of the record, does what the record says, and ends as it ends.
 abbrev pub IsReplayedOver : List Declaration → Record → Type 0
 IsReplayedOver ds r = Replays (strands_of_syntax ds r.words r.limits) (first_memory (cells_of ds)) r.limits.aborts r.tree r.conflicts r.order r.end
 
--- Where its program is the compilation of a tree, and its words are as many as main has parameters there, a record replays over the code
--- exactly where it replays over the tree.
+-- If its program is the compilation of a syntax tree, and it has as many words as main has parameters there, a record replays over
+-- the code exactly if it replays over the tree.
 abbrev pub RecordsReplayOverSource : Type 0
 RecordsReplayOverSource = (ds : List Declaration) (r : Record) → IsProgramOf ds r.program → MainTakes ds (length r.words) → IsReplayed r ↔ IsReplayedOver ds r
 
--- What a coherent record of a compiled program keeps has a fork only where the source has a `spawn`.
+-- A coherent record of a compiled program has a fork only if the source has a `spawn`.
 abbrev pub ForksNeedSpawns : Type 0
 ForksNeedSpawns = (ds : List Declaration) (r : Record) → IsProgramOf ds r.program → IsCoherentRun r → (f : ℕ) → IsTrue (is_fork r.tree f) → IsTrue (any_spawns ds)

@@ -1,4 +1,4 @@
--- Every coherent record replays: one memory, in the order of the record, does what the record says, and comes to its end.
+-- Every coherent record replays: one memory, in the order of the record, does what the record says, and ends as it ends.
 use Rattle.std.specs.Prelude.{◌≡◌, ℕ, ℤ, List, IsTrue}
 use Rattle.cw_strand.specs.Strands.{Strands}
 use Rattle.cw_tree.specs.declared.node.Node.{Node}
@@ -15,8 +15,9 @@ use Rattle.cw_record.specs.Coherent.{IsCoherent, HasOutputs}
 use Rattle.cw_record.specs.Replay.{Replays, SameEnd}
 use Rattle.cw_record.specs.Records.{IsCoherentRecord, HasItsOutputs, IsReplayed}
 
--- The strands may be any: given by a syntax tree, by compiled code, or by hand. The record is of any run of them, also of one in which
--- strands ran at the same time, were refused and rolled back, and in which blocks were left pending; and it came to any end.
+-- The strands may be any: given by a syntax tree, by compiled code, or by hand. The record may be of any run of them: strands may
+-- have run at the same time, been refused and rolled back, and blocks may have been left pending. The run may have ended in any
+-- way.
 abbrev pub RecordsReplay : {A : Type 0} → Strands A → Type 0
 RecordsReplay s =
     -- over a memory with any first values, and with any budget
@@ -30,11 +31,11 @@ RecordsReplay s =
     -- so it replays in its order
     → Replays s first budget t cs (order_of t cs budget e) e
 
--- The same of a record with its program: where its order is the right one, a check agrees with it.
+-- The same for a record with its program: if its order is the right one, a check agrees with it.
 abbrev pub KeptRecordsReplay : Type 0
 KeptRecordsReplay = (r : Record) → IsCoherentRecord r → HasItsOutputs r → r.order ≡ order_of r.tree r.conflicts r.limits.aborts r.end → IsReplayed r
 
--- Where a run replays, the machine comes to its end by the picks of its order alone.
+-- If a run replays, the picks of its order alone lead the machine to its end.
 abbrev pub PicksLeadThere : {A : Type 0} → Strands A → Type 0
 PicksLeadThere s =
     (first : List ℤ) (budget : ℕ) (t : List Node) (cs : List Conflict) (picks : Picks) (e : RecordEnd)

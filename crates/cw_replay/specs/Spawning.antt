@@ -1,4 +1,4 @@
--- Sources that spawn: somewhere in a function stands a `spawn`.
+-- Sources that spawn: a function somewhere contains a `spawn`.
 use Rattle.std.specs.Prelude.{◌||◌, Bool, true, false, List, [], ◌∷◌}
 use Rattle.cw_text.specs.Syntax.{Statement, choose, repeat, atomic, spawn, Block, empty, first, Declaration, cell, func}
 
@@ -14,7 +14,7 @@ abbrev mutual
   block_spawns empty = false
   block_spawns (first s b) = statement_spawns s || block_spawns b
 
--- a function of these has a `spawn`
+-- a function among these declarations contains a `spawn`
 abbrev pub any_spawns : List Declaration → Bool
 any_spawns [] = false
 any_spawns (cell x l len i ∷ ds) = any_spawns ds

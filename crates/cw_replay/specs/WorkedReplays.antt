@@ -1,4 +1,4 @@
--- Small records, one for each way in which a run may end, that replay because they are coherent: each by the law, and by no computing.
+-- Small records, one for each way in which a run may end. They replay because they are coherent: by the law, without computing.
 use Rattle.std.specs.Prelude.{◌≡◌, ℕ, ℤ, pos, List, [], ◌∷◌}
 use Rattle.cw_code.specs.declared.FaultKind.TheVariants.{Zero}
 use Rattle.cw_strand.specs.Strands.{Strands}
@@ -30,5 +30,5 @@ pub record WorkedReplays : Type 0 where
   pub access : ReplaysInOrder (scripted writes) (pos 0 ∷ []) 1 written (refused_alone ∷ []) (Budget 6)
   -- moves that were used up before main had ended
   pub moves : ReplaysInOrder (scripted counts) (pos 0 ∷ []) 1 (counted (pos 1)) [] Moves
-  -- all that main wants was done by then: the machine has finished
+  -- everything that main wants was done by then: the machine has finished
   pub done : serial_end (scripted counts) (pos 0 ∷ []) (order_of (counted (pos 1)) [] 1 Moves) ≡ last.Finished (pos 1 ∷ []) (pos 1 ∷ [])
