@@ -1,4 +1,4 @@
--- Which strands stand inside which pending blocks: what a strand needs that goes back to the begin of a block.
+-- Which strands are inside which pending blocks: what a strand needs in order to go back to the begin of a block.
 use Rattle.std.specs.Prelude.{◌≡◌, ℕ, zero, suc, ◌<◌, ◌||◌, List, Bool, true, false}
 use Rattle.cw_strand.specs.declared.want.Want.TheVariants.{Begin}
 use Rattle.cw_strand.specs.Strands.{Strands}
@@ -12,49 +12,49 @@ use Rattle.cw_sim.specs.Workers.{Simulation, right_node}
 
 -- ## Strands
 
--- strand z is y itself, or, where y is the right strand of a fork, so to the strand that forked: so many forks up
+-- it takes `forks` steps from strand y to strand z, each from the right strand of a fork to the strand that forked
 abbrev pub IsRightOf : List Node → (forks y z : ℕ) → Type 0
 IsRightOf t zero y z = y ≡ z
 IsRightOf t (suc n) y z = (f : ℕ) × ((is_fork t f ≡ true) × ((y ≡ right_node f) × IsRightOf t n (strand_of t f) z))
 
--- the strand's own fork, if it has one, is not joined, and all that it made are
+-- the strand's own fork, if it has one, is not joined, and all forks that it made are
 pub record HasOneOpenFork (m : OpenMachine) (y : ℕ) : Type 0 where
   pub strand : is_strand m.tree y ≡ true
   pub apart : 0 < y → has m.joined (parent_of m.tree y) ≡ false
   pub alone : waits m y ≡ false
 
--- it is on its way back, or gave up there
+-- the strand is on its way back, or finished dead
 abbrev pub goes_back : OpenMachine → ℕ → Bool
 goes_back m y = is_dying m y || finished_dead m y
 
--- ## Where they stand
+-- ## Where strands are
 
 module _ {A : Type 0} (s : Strands A) where
-  -- inside a block with this begin, and once it has finished it does not want the block's own end
+  -- state a is inside a block with this begin, and if the strand has finished, it does not want the block's own end
   pub record LivesIn (finished : Bool) (begin : A) (forks : ℕ) (a : A) : Type 0 where
     pub inner : ℕ
     pub inside : Inside s begin forks inner a
     pub stays : finished ≡ true → StaysIn (s.want a) inner
 
-  -- inside a block with this begin, and not at a want of the block's own end
+  -- state a is inside a block with this begin, and does not want the block's own end
   pub record GoesBackIn (begin a : A) : Type 0 where
     pub forks : ℕ
     pub inner : ℕ
     pub inside : Inside s begin forks inner a
     pub stays : StaysIn (s.want a) inner
 
-  -- Each strand that stands is inside each pending block that was begun in it, or where it comes from as a right strand, and does not want
-  -- the block's own end where it goes back. A strand that goes back is there where its body stands.
+  -- Each strand is inside each pending block that was begun in it, or in a strand that it continues as a right strand. If it goes
+  -- back, it does not want the block's own end, and its state is that of its body.
   pub record AreInside (m : OpenMachine) (at saved there : ℕ → A) : Type 0 where
     pub same : (y : ℕ) → HasOneOpenFork m y → goes_back m y ≡ false → there y ≡ at y
     pub lives : (y b n : ℕ) → HasOneOpenFork m y → goes_back m y ≡ false → is_pending m.tree b ≡ true → IsRightOf m.tree n y (strand_of m.tree b)
         → LivesIn (has_finished m y) (saved b) n (at y)
     pub back : (y b n : ℕ) → HasOneOpenFork m y → goes_back m y ≡ true → is_pending m.tree b ≡ true → IsRightOf m.tree n y (strand_of m.tree b) → GoesBackIn (saved b) (there y)
-    -- so is the begin of a pending block inside those around it
+    -- so the begin of a pending block is inside the blocks around it
     pub blocks : (q b n : ℕ) → is_pending m.tree q ≡ true → is_pending m.tree b ≡ true → IsRightOf m.tree n (strand_of m.tree q) (strand_of m.tree b) → (n ≡ 0 → b < q)
         → (inner : ℕ) × Inside s (saved b) n inner (saved q)
     pub begins : (b : ℕ) → is_pending m.tree b ≡ true → s.want (saved b) ≡ Begin
 
--- the strands of a simulation stand so, where `there` says
+-- the strands of a simulation are inside their blocks, in the states that `there` gives
 abbrev pub HasInside : {A : Type 0} → Strands A → Simulation A → (ℕ → A) → Type 0
 HasInside s m there = AreInside s m.core.machine m.at m.saved there

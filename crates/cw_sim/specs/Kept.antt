@@ -13,26 +13,26 @@ use Rattle.cw_sim.specs.Workers.{Worker, Simulation, waiting, left_node, right_n
 
 -- ## Forks that wait
 
--- Of strands on the way up from one, innermost first: the forks in whose left strands it stands, outermost first. The way ends with the head
--- of its trace, whose fork is split.
+-- The forks in whose left strands the first of these strands is, outermost first. The strands lie on the way up from it, innermost
+-- first. The way ends with the head of its trace, whose fork is split.
 abbrev pub lefts : CoreState → List ℕ → List ℕ
 lefts k [] = []
 lefts k (y ∷ ys) =
     let f = parent_of k.machine.tree y in
     if is_split k f then [] else if y == left_node f then lefts k ys ++ f ∷ [] else lefts k ys
 
--- the forks that are not split in whose left strands strand x stands, within its trace, outermost first
+-- the unsplit forks in whose left strands strand x is, within its trace, outermost first
 abbrev pub forks_around : CoreState → ℕ → List ℕ
 forks_around k x = lefts k (strands_on k.machine.tree x)
 
--- Worker w runs strand x: it may go on, and what waits in w are just the forks around it. Those that are inline are inside all others.
+-- Worker w runs strand x. The strand may go on, and exactly the forks around it wait in w. Inline ones are inside all others.
 pub record Runs (k : CoreState) (w : Worker) (x : ℕ) : Type 0 where
   pub running : is_running k.machine x ≡ true
   pub ready : waits_for_left k x ≡ false
   pub forks : waiting w ≡ forks_around k x
   pub deque : (f : ℕ) → has w.deque f ≡ true → has_columns k f ≡ true
   pub inline : (f : ℕ) → has w.inline f ≡ true → has_columns k f ≡ false
-  -- their right strands are still to be started
+  -- the right strands of waiting forks have yet to start
   pub to_come : (f : ℕ) → has (waiting w) f ≡ true → has_finished k.machine (right_node f) ≡ false
 
 -- nothing waits in an idle worker
@@ -52,17 +52,17 @@ pub record AreWorkers (k : CoreState) (ws : List Worker) : Type 0 where
 
 -- ## The core
 
--- it goes on, and its forks are as they were made
+-- the core goes on, and its forks are as they were made
 pub record CoreGoesOn (first : List ℤ) (k : CoreState) : Type 0 where
   pub core : IsCore first k
   pub halt : k.halt ≡ None
   pub spent : spent k ≡ None
   pub stopped : k.machine.stopped ≡ []
   pub forks : (f : ℕ) → is_fork k.machine.tree f ≡ true → children k.machine.tree f ≡ left_node f ∷ right_node f ∷ []
-  -- forks are split from the outside
+  -- forks are split from the outside in
   pub outside : (f : ℕ) → is_fork k.machine.tree f ≡ true → has k.machine.joined f ≡ false → is_split k f ≡ true → forks_around k (strand_of k.machine.tree f) ≡ []
 
--- ## Where strands stand
+-- ## The states of strands
 
 -- the strand's own fork, if it has one, is not joined
 abbrev pub is_current : CoreState → ℕ → Bool
@@ -70,14 +70,14 @@ is_current k zero = true
 is_current k (suc x) = is_strand k.machine.tree (suc x) && not (has k.machine.joined (parent_of k.machine.tree (suc x)))
 
 module _ {A : Type 0} (s : Strands A) where
-  -- By these states before, after and in each node the tree is what the strands did, and they are where strands stand.
+  -- With these states before, after and in each node, the tree is what the strands did, and its states are those of the strands.
   pub record AreStanding (m : Simulation A) (before after reached : ℕ → A) : Type 0 where
     pub states : AreStates s m.core.machine before after reached
-    -- a strand that waits stands before its fork
+    -- a strand that waits is in the state before its fork
     pub forks : (f : ℕ) → is_fork (tree m) f ≡ true → has m.core.machine.joined f ≡ false → before f ≡ m.at (strand_of (tree m) f)
-    -- any other one stands at what was reached in it
+    -- any other strand is in the state that was reached in it
     pub strands : (x : ℕ) → is_current m.core x ≡ true → waits m.core.machine x ≡ false → reached (place (tree m) x) ≡ m.at x
-    -- what is saved of a pending block is where its strand stood at its begin
+    -- what is saved for a pending block is the state of its strand at its begin
     pub saved : (b : ℕ) → is_pending (tree m) b ≡ true → before b ≡ m.saved b
 
   abbrev pub HasStates : Simulation A → Type 0

@@ -17,13 +17,14 @@ NamesCell cells (Load c) = c < cells
 NamesCell cells (Store c v) = c < cells
 NamesCell cells w = Unit {0}
 
--- Strands that keep the law, over so many cells. Each of these is an element of the strands, so that a strand may be told to put it back.
+-- Strands that keep the law, over `cells` cells. Each cell is an element of the strands, so that a strand may be told to put it
+-- back.
 pub record AreStrands {A : Type 0} (s : Strands A) (cells : ℕ) : Type 0 where
   pub lawful : IsLawful s
   pub there : cells ≤ s.elements
   pub named : (own : List ℕ) (a : A) → Reached s own a → NamesCell cells (s.want a)
 
--- one state of the core comes of another by events, each of which fits where it comes
+-- events lead from one state of the core to the other, and each fits where it comes
 pub record ComesByEvents (from to : CoreState) : Type 0 where
   pub events : List Event
   pub fit : IsTrue (all_fit from events)
@@ -32,11 +33,11 @@ pub record ComesByEvents (from to : CoreState) : Type 0 where
 -- ## Over any law of strands
 
 module _ {A : Type 0} (s : Strands A) where
-  -- Before the first move all is kept.
+  -- Before the first move everything is kept.
   abbrev pub OpensWell : Type 0
   OpensWell = (first : List ℤ) (room budget workers : ℕ) → 0 < room → IsKept s first (first_simulation first room budget workers s.start)
 
-  -- Every event that a move makes fits, and while the run is not over all is kept.
+  -- Every event that a move makes fits. While the run is not over, everything is kept.
   abbrev pub MovesFit : Type 0
   MovesFit =
       (first : List ℤ) (m : Simulation A) (w : ℕ) → AreStrands s (length first) → w < length m.workers → IsKept s first m → is_run_over m ≡ false
@@ -48,11 +49,11 @@ module _ {A : Type 0} (s : Strands A) where
   abbrev pub NoneIsEarly : Type 0
   NoneIsEarly = (first : List ℤ) (m : Simulation A) (w f : ℕ) (fs : List ℕ) → IsKept s first m → (worker m w).deque ≡ f ∷ fs → is_early m.core f ≡ None
 
-  -- The newest fork that waits in a worker, in its deque or inline.
+  -- Fork f is the newest that waits in a worker, in its deque or inline.
   abbrev pub IsNewestWaiting : Worker → ℕ → Type 0
   IsNewestWaiting w f = (fs : List ℕ) × (waiting w ≡ fs ++ f ∷ [])
 
-  -- The fork of a left strand that was not split is the newest that waits in the worker that runs the strand.
+  -- If a worker runs the left strand of an unsplit fork, that fork is the newest that waits in the worker.
   abbrev pub ForksAreThere : Type 0
   ForksAreThere =
       (first : List ℤ) (m : Simulation A) (w f : ℕ) → IsKept s first m → is_fork (tree m) f ≡ true → (worker m w).runs ≡ Some (left_node f) → is_split m.core f ≡ false

@@ -19,38 +19,38 @@ use Rattle.cw_open.specs.Steps.{puts_back}
 use Rattle.cw_core.specs.Events.{after_event, reply_to, may_fork, next}
 use Rattle.cw_sim.specs.Workers.{Simulation, left_node, right_node, changed_at, with_fork, tree, worker, with_strand, with_worker, with_run}
 
--- a read is given the value, a write nothing
+-- what an access gives to its strand: the value for a read, nothing for a write
 abbrev pub given_for : Option ℤ → ℤ → Given
 given_for None v = Value v
 given_for (Some written) v = Nothing
 
 module _ {A : Type 0} where
-  -- an event of the core
+  -- the simulation after an event of the core
   abbrev pub does : Event → Simulation A → Simulation A
   does e m = record m { core = after_event m.core e }
 
-  -- a halt, or the end of main
+  -- the run is over by a halt, or by the end of main
   abbrev pub is_run_over : Simulation A → Bool
   is_run_over m = is_some m.core.halt || has_finished m.core.machine 0
 
   -- ## An idle worker takes the oldest fork of the next worker that has one
 
-  -- the workers after w, round and round, and not w
+  -- the workers after w, going round, without w
   abbrev pub others : Simulation A → ℕ → List ℕ
   others m w = map (λ i. (w + suc i) % length m.workers) (below (length m.workers - 1))
 
-  -- Worker w takes fork f from worker v: it is split, and its right strand is w's.
+  -- Worker w takes fork f from worker v. The fork is split, and w runs its right strand.
   abbrev pub takes : (w v f : ℕ) → List ℕ → Simulation A → Simulation A
   takes w v f rest m = with_run w (Some (right_node f)) (with_worker v (record (worker m v) { deque = rest }) (does (event.Split f) m))
 
-  -- the first of these workers whose deque is not empty gives its oldest fork; where there is none, nothing happens
+  -- worker w takes the oldest fork of the first of these workers whose deque is not empty; if there is none, nothing happens
   abbrev pub steals : ℕ → List ℕ → Simulation A → Simulation A
   steals w [] m = m
   steals w (v ∷ vs) m = elim (worker m v).deque [ [] ↦ steals w vs m | f ∷ fs ↦ takes w v f fs m ]
 
   -- ## What follows a finished strand, in the same move
 
-  -- the fork f no more waits in worker w
+  -- fork f no longer waits in worker w
   abbrev pub takes_back : (w f : ℕ) → Simulation A → Simulation A
   takes_back w f m =
       let without = filter (λ g. not (g == f)) in
@@ -63,18 +63,18 @@ module _ {A : Type 0} where
         let p = strand_of (tree m) f in
         with_run w (Some p) (with_strand p (s.joined (m.at (right_node f)) (m.at (left_node f))) (does (event.Join f) m))
 
-    -- The left strand of fork f has finished, and its right one waits in worker w. After a live one w goes on with the right one; after a
-    -- dead one the right one finishes dead too, and they join.
+    -- The left strand of fork f has finished, and its right one waits in worker w. After a live left strand, w goes on with the
+    -- right one. After a dead one, the right one finishes dead, too, and they join.
     abbrev pub goes_to_right : (w f : ℕ) → (dead : Bool) → Simulation A → Simulation A
     goes_to_right w f false m = with_run w (Some (right_node f)) (takes_back w f m)
     goes_to_right w f true m = joins w f (does (event.Finish (right_node f) true) (takes_back w f m))
 
-    -- one of the strands of fork f has finished: they join where the other one has too, and else worker w is idle
+    -- one strand of fork f has finished: they join if the other one has, too; otherwise worker w is idle
     abbrev pub joins_or_idles : (w f : ℕ) → (both : Bool) → Simulation A → Simulation A
     joins_or_idles w f false m = with_run w None m
     joins_or_idles w f true m = joins w f m
 
-    -- after main, nothing; after the left strand of a fork that was not split, its right one; else the strand that forked
+    -- after main nothing; after the left strand of an unsplit fork its right one; otherwise a join, or an idle worker
     abbrev pub follows : (w x : ℕ) → (dead : Bool) → Simulation A → Simulation A
     follows w zero dead m = with_run w None m
     follows w (suc x) dead m =
@@ -88,7 +88,7 @@ module _ {A : Type 0} where
 
     -- ## A strand that is dying
 
-    -- it rolls back the innermost pending block begun in it, and stands at its begin again; if there is none, it finishes dead
+    -- strand x rolls back the innermost pending block begun in it, and is at its begin again; if there is none, it finishes dead
     abbrev pub dies : (w x : ℕ) → Simulation A → Simulation A
     dies w x m =
         if in_block m.core.machine x
@@ -100,11 +100,11 @@ module _ {A : Type 0} where
     abbrev pub answers : ℕ → Given → Simulation A → Simulation A
     answers x given m = with_strand x (s.answer (m.at x) given) m
 
-    -- where the last attempt that a block or an access may have was refused, the run stops
+    -- if the last attempt of a block or an access was refused, the run stops
     abbrev pub stops_if_spent : Simulation A → Simulation A
     stops_if_spent m = option_map_or (λ x. does (event.Stop (halt.Budget x)) m) (spent m.core) m
 
-    -- an access is answered; a strand whose access is refused stands where it stood
+    -- an access that was made is answered; a strand whose access was refused stays where it is
     abbrev pub meets_cell : ℕ → Option ℤ → Reply → Simulation A → Simulation A
     meets_cell x write (reply.Value v) m = answers x (given_for write v) m
     meets_cell x write refused m = stops_if_spent m
@@ -116,7 +116,8 @@ module _ {A : Type 0} where
     abbrev pub begins : ℕ → Simulation A → Simulation A
     begins x m = answers x Nothing (record (does (event.Begin x) m) { saved = changed_at (length (tree m)) (m.at x) m.saved })
 
-    -- the block is given up: the strand is told what to put back, which it wants next, each as a write of its own, and then the block's end
+    -- The block is given up. The strand is told what to put back. It wants that next, each cell by a write of its own, and then the
+    -- block's end.
     abbrev pub gives_up : ℕ → Simulation A → Simulation A
     gives_up x m = answers x (Back (puts_back m.core.machine x (next m.core))) (does (event.Cancel x) m)
 
@@ -145,7 +146,7 @@ module _ {A : Type 0} where
     abbrev pub move : ℕ → Simulation A → Simulation A
     move w m = elim (worker m w).runs [ None ↦ steals w (others m w) m | Some x ↦ if is_dying m.core.machine x then dies w x m else acts w x (s.want (m.at x)) m ]
 
-    -- at most k moves from the n-th on: none is made once the run is over
+    -- at most k moves from move n on; none is made once the run is over
     abbrev pub after_moves : (turn : ℕ → ℕ) → (k n : ℕ) → Simulation A → Simulation A
     after_moves turn zero n m = m
     after_moves turn (suc k) n m = elim (is_run_over m) [ true ↦ m | false ↦ after_moves turn k (suc n) (move (turn n) m) ]

@@ -1,4 +1,4 @@
--- Simulations of one worker: it has none to take a fork from, so left strands go first, and no access is refused.
+-- Simulations of one worker. There is no worker to take a fork from, so left strands go first, and no access is refused.
 use Rattle.std.specs.Prelude.{◌≡◌, ℕ, ℤ, ◌<◌, IsTrue, List, [], length}
 use Rattle.cw_strand.specs.Strands.{Strands}
 use Rattle.cw_open.specs.Steps.{first_machine}
@@ -14,14 +14,14 @@ use Rattle.cw_sim.specs.Laws.{AreStrands, ComesByEvents}
 
 -- ## Cores
 
--- From the start so many columns and attempts, events that fit come to this core, and in their steps left strands go first.
+-- Events that fit lead from the start, with this many columns and attempts, to core k. In their steps left strands go first.
 pub record ComesLeftFirst (first : List ℤ) (room budget : ℕ) (k : CoreState) : Type 0 where
   pub events : List Event
   pub fit : IsTrue (all_fit (start first room budget) events)
   pub there : after_events (start first room budget) events ≡ k
   pub left_first : IsTrue (go_left_first (first_machine first) (steps_of_all (start first room budget) events))
 
--- Where no fork is split left strands go first, so no access is refused.
+-- If no fork is split, left strands go first, so no access is refused.
 abbrev pub UnsplitAreUnrefused : Type 0
 UnsplitAreUnrefused =
     (first : List ℤ) (room budget : ℕ) (k : CoreState) → 0 < room → ComesByEvents (start first room budget) k → k.splits ≡ []
@@ -30,11 +30,11 @@ UnsplitAreUnrefused =
 -- ## Over any law of strands
 
 module _ {A : Type 0} (s : Strands A) where
-  -- A move of the one worker that there is splits no fork.
+  -- A move of the only worker splits no fork.
   abbrev pub OneSplitsNone : Type 0
   OneSplitsNone = (m : Simulation A) (w : ℕ) → length m.workers ≡ 1 → (move s w m).core.splits ≡ m.core.splits
 
-  -- So in its moves left strands go first, however many there are, and no access is refused.
+  -- So left strands go first in its moves, however many there are, and no access is refused.
   abbrev pub OneIsUnrefused : Type 0
   OneIsUnrefused =
       (first : List ℤ) (room budget limit : ℕ) (turn : ℕ → ℕ) → AreStrands s (length first) → 0 < room → ((n : ℕ) → turn n < 1)

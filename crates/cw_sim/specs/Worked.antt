@@ -1,4 +1,4 @@
--- Small sources, moved by given workers, and what the definitions say of their runs.
+-- Small sources, run by given workers, and what the definitions compute for their runs.
 use Rattle.std.specs.Prelude.{◌≡◌, ℕ, ℤ, pos, Bool, true, false, List, [], ◌∷◌, map, length, replicate, codes, Option, Some, None}
 use Rattle.cw_code.specs.declared.Limits.{Limits}
 use Rattle.cw_code.specs.declared.FaultKind.TheVariants.{Zero}
@@ -28,22 +28,22 @@ use Rattle.cw_sim.specs.Moves.{is_run_over, after_moves}
 abbrev pub limits : (aborts strands moves : ℕ) → Limits
 limits aborts strands moves = record { fuel = 1000; size = 1000; aborts = aborts; strands = strands; moves = moves }
 
--- so many attempts, columns and moves that none of these limits is met
+-- enough attempts, columns and moves that none of these limits is met
 abbrev pub wide : Limits
 wide = limits 1000 100 1000
 
--- so often a block or an access may be refused
+-- limits by which a block or an access may be refused `aborts` times
 abbrev pub up_to : ℕ → Limits
 up_to aborts = limits aborts 100 1000
 
--- the run of a source by so many workers, of which these are listed
+-- the run of a source by `workers` workers, which move in the order of this list
 abbrev pub ran : List ℕ → (workers : ℕ) → List ℕ → Limits → Simulation (Standing coded.State)
 ran text workers list most =
     let ds = sources.tree text in
     let s = compiled ds [] most in
     after_moves s (worker_at (Listed list) workers) most.moves 0 (first_simulation (first_memory (cells_of ds)) most.strands most.aborts workers s.start)
 
--- what is looked at
+-- what is looked at in a run
 pub record SeenRow : Type 0 where
   pub halt : Option Halt
   pub finished : Bool
@@ -62,11 +62,11 @@ seen m = record {
   conflicts = m.core.machine.conflicts;
 }
 
--- main has ended
+-- a run in which main has ended
 abbrev pub ended : (memory outputs : List ℤ) → (clock : ℕ) → List Conflict → SeenRow
 ended memory outputs clock conflicts = record { halt = None; finished = true; memory = memory; outputs = outputs; clock = clock; conflicts = conflicts }
 
--- the run stopped before
+-- a run that stopped before
 abbrev pub halted : Halt → (memory : List ℤ) → (clock : ℕ) → List Conflict → SeenRow
 halted h memory clock conflicts = record { halt = Some h; finished = false; memory = memory; outputs = []; clock = clock; conflicts = conflicts }
 
@@ -81,7 +81,7 @@ pub record Sums : Type 0 where
       ≡ plain 0 Strand 0 ∷ committed 0 1 7 ∷ plain 1 Fork 2 ∷ plain 2 Strand 0 ∷ plain 2 Strand 0
       ∷ plain 3 (Read 0 (pos 0)) 3 ∷ plain 4 (Read 0 (pos 0)) 4 ∷ plain 3 (Write 0 (pos 1)) 5 ∷ plain 4 (Write 0 (pos 1)) 6 ∷ []
 
--- ## The outer one of two blocks is a victim: both are rolled back, a block a move, and done again
+-- ## The outer one of two blocks is a victim: both are rolled back, one in each move, and done again
 
 abbrev pub blocks : Limits → Simulation (Standing coded.State)
 blocks most = ran (codes "cell c; fn main() { spawn { atomic { c = 1; } } atomic { atomic { c = 2; } } }") 2 (0 ∷ 1 ∷ 0 ∷ 0 ∷ 1 ∷ 1 ∷ 1 ∷ []) most
@@ -94,11 +94,11 @@ pub record Blocks : Type 0 where
   pub nodes : tree (blocks wide)
       ≡ plain 0 Strand 0 ∷ plain 0 Fork 1 ∷ plain 1 Strand 0 ∷ plain 1 Strand 0 ∷ committed 2 2 6 ∷ plain 4 (Write 0 (pos 1)) 3
       ∷ aborted 3 4 8 ∷ aborted 6 5 7 ∷ plain 7 (Tried 0) 0 ∷ committed 3 9 13 ∷ committed 9 10 12 ∷ plain 10 (Write 0 (pos 2)) 11 ∷ []
-  -- with one attempt the run stops in the right strand of the fork, and has no item; with two it is as with many
+  -- with one attempt the run stops in the right strand of the fork, and has no item; with two it ends as with many
   pub once : seen (blocks (up_to 1)) ≡ halted (Budget 3) (pos 1 ∷ []) 5 (refused_block ∷ [])
   pub order : items (tree (blocks (up_to 1))) (refused_block ∷ []) 1 (ends.Budget 3) ≡ []
   pub twice : seen (blocks (up_to 2)) ≡ ended (pos 2 ∷ []) [] 13 (refused_block ∷ [])
-  -- so many moves it takes, idle ones among them
+  -- the number of moves that it takes, idle ones included
   pub one_less : is_run_over (blocks (limits 1000 100 24)) ≡ false
   pub enough : is_run_over (blocks (limits 1000 100 25)) ≡ true
 
@@ -110,7 +110,7 @@ before = ran (codes "cell c; cell d; fn main() { spawn { spawn { d = 5; } c = 1;
 abbrev pub within : Limits → Simulation (Standing coded.State)
 within most = ran (codes "cell c; cell d; fn main() { spawn { atomic { spawn { d = 5; } c = 1; sync; d = 1; } } c = 2; }") 3 (0 ∷ 1 ∷ 0 ∷ 0 ∷ 2 ∷ 2 ∷ 0 ∷ 2 ∷ 0 ∷ 1 ∷ []) most
 
--- no block has to fall: the access is tried again
+-- no block has to be rolled back: the access is tried again
 abbrev pub refused_access : (asker attempt : ℕ) → Conflict
 refused_access asker attempt = record { cell = 0; last = 4; asker = asker; block = 2; victim = 0; attempt = attempt; chain = 4 ∷ [] }
 
@@ -120,7 +120,7 @@ pub record Joined : Type 0 where
   pub twice : seen (within (up_to 2)) ≡ halted (Budget 3) (pos 1 ∷ pos 1 ∷ []) 6 (refused_access 10 1 ∷ refused_access 12 2 ∷ [])
   pub three_times : seen (within (up_to 3)) ≡ ended (pos 2 ∷ pos 1 ∷ []) [] 8 (refused_access 10 1 ∷ refused_access 12 2 ∷ [])
 
--- ## An access is refused inside a block that is common to both
+-- ## An access is refused inside a block that is around both strands
 
 abbrev pub common : Limits → Simulation (Standing coded.State)
 common most = ran (codes "cell c; fn main() { atomic { spawn { atomic { c = 1; } } c = 2; } }") 2 (0 ∷ 0 ∷ 1 ∷ 0 ∷ 0 ∷ 1 ∷ []) most
@@ -152,7 +152,7 @@ inner =
 abbrev pub Inner : Type 0
 Inner = seen inner ≡ ended (pos 8 ∷ pos 9 ∷ pos 2 ∷ []) [] 21 (record { cell = 2; last = 3; asker = 12; block = 2; victim = 4; attempt = 1; chain = 3 ∷ [] } ∷ [])
 
--- ## A fault in a block that was about to fall
+-- ## A fault in a block that was about to be rolled back
 
 abbrev pub faulty : Simulation (Standing coded.State)
 faulty =

@@ -5,18 +5,18 @@ use Rattle.cw_tree.specs.Walks.{has}
 use Rattle.cw_sim.specs.Workers.{Worker, waiting, worker_in}
 use Rattle.cw_sim.specs.declared.worker.Worker.{Worker as InMemory}
 
--- what one in memory stands for
+-- the worker that one in memory represents
 abbrev pub worker_of : InMemory → Worker
 worker_of w = record { runs = w.runs; deque = w.deque.items; inline = w.inline.items }
 
 abbrev pub workers_of : List InMemory → List Worker
 workers_of ws = map worker_of ws
 
--- the workers after w, round and round, of so many
+-- the workers after w, going round, if there are `count` of them
 abbrev pub workers_next : (w count : ℕ) → List ℕ
 workers_next w count = map (λ i. (w + suc i) % count) (below (count - 1))
 
--- the first of these whose deque is not empty
+-- the first of these workers whose deque is not empty
 abbrev pub first_with_forks : List Worker → List ℕ → Option ℕ
 first_with_forks ws [] = None
 first_with_forks ws (v ∷ vs) = elim (worker_in ws v).deque [ [] ↦ first_with_forks ws vs | f ∷ fs ↦ Some v ]
@@ -27,6 +27,6 @@ pub record IsLast (w : Worker) (f : ℕ) : Type 0 where
   pub all : waiting w ≡ before ++ f ∷ []
   pub once : has before f ≡ false
 
--- fork f no more waits
+-- fork f no longer waits
 abbrev pub without_waiting : ℕ → Worker → Worker
 without_waiting f w = record w { deque = filter (λ g. not (g == f)) w.deque; inline = filter (λ g. not (g == f)) w.inline }

@@ -6,7 +6,7 @@ use slab::Slab;
 use std::alloc::Global;
 use std::marker::Model;
 
-/// Things of nodes, at most one of each. They stand in a slab, and a node keeps the key of its own.
+/// At most one thing for each node. The things lie in a slab, and each node keeps the key of its own.
 #[derive(Drop)]
 pub(crate) struct ByNode<T> {
     slab: Slab<T>,
@@ -35,14 +35,14 @@ impl<T: Drop> ByNode<T> {
         }
     }
 
-    /// Whether a node has one.
+    /// Returns whether `node` has a thing.
     fn has(&self, node: u32) -> bool
         ensures { result ≡ is_some (thing_at self.now node) }
     {
         matches!(self.keys.get(node as usize), Some(Some(_)))
     }
 
-    /// That of a node that has one.
+    /// Returns the thing of a node that has one.
     pub(crate) fn at(&self, node: u32) -> &T
         requires { IsSome (thing_at self.now node) }
         ensures { thing_at self.now node ≡ Some result.now }
@@ -53,7 +53,7 @@ impl<T: Drop> ByNode<T> {
         &self.slab[key]
     }
 
-    /// Takes that of a node that has one.
+    /// Takes the thing of a node that has one.
     pub(crate) fn take(&mut self, node: u32) -> T
         requires { IsSome (thing_at self.old node) }
         ensures thing { thing_at self.old node ≡ Some result }
@@ -67,7 +67,7 @@ impl<T: Drop> ByNode<T> {
         self.slab.remove(key)
     }
 
-    /// Makes room for the key of a node.
+    /// Makes room for the key of `node`.
     fn grow(&mut self, node: u32) -> Result<(), OutOfMemory>
         ensures there { OnOk result (node < length self.new) }
         ensures same { OnOk result ((m : ℕ) → thing_at self.new m ≡ thing_at self.old m) }
@@ -80,7 +80,7 @@ impl<T: Drop> ByNode<T> {
         Ok(())
     }
 
-    /// Gives a node that has none its own.
+    /// Gives `thing` to a node that has none.
     fn add(&mut self, node: u32, thing: T) -> Result<(), OutOfMemory>
         requires there { node < length self.old }
         requires none { thing_at self.old node ≡ None }
@@ -91,7 +91,7 @@ impl<T: Drop> ByNode<T> {
         Ok(())
     }
 
-    /// Gives a node its own, in the place of what it has.
+    /// Gives `thing` to `node`, in place of what it has.
     pub(crate) fn put(&mut self, node: u32, thing: T) -> Result<(), OutOfMemory>
         ensures { OnOk result (Puts self.old node (Some thing) self.new) }
     {

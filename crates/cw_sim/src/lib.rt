@@ -1,8 +1,8 @@
 //! The simulation: several virtual workers run the strands of a program over one core, each when its turn comes.
-//! Stands on `cw_io`, `cw_strand`, `cw_job`, `cw_core` and `cw_record`, with the kit's `slab`.
-//! Contracts cite `specs/Workers.antt` (the state of a simulation), `specs/Turns.antt` (who makes which move), `specs/Moves.antt` (what
-//! each move does, and runs), `specs/Kept.antt` (what is true between moves), `specs/Laws.antt` (what holds of them), `specs/Runs.antt` (the
-//! whole run, and its record) and `specs/OneWorker.antt` (runs of one worker); `specs/Worked.antt` tries them on small sources.
+//! Use `simulate` to run a program in the order of moves that a list or a seed gives.
+//! Contracts cite `specs/Workers.antt` (the state of a simulation), `Turns` (who makes which move), `Moves` (what each move does,
+//! and runs), `Kept` (what is true between moves), `Laws` (what holds of moves), `Runs` (the whole run, and its record) and
+//! `OneWorker` (runs of one worker). `Worked` tries them on small sources.
 #![tactic(auto)]
 
 ghost use Rattle.cw_sim.specs.Laws.{ForksAreThere, MovesFit, NoneIsEarly, OpensWell};
@@ -19,40 +19,40 @@ mod worker;
 
 pub use simulating::simulate;
 
-/// Before the first move all is kept.
+/// Law: everything in `specs/Kept.antt` holds before the first move.
 pub fn opens_well<S>()
     ensures { (s : Strands S) → OpensWell s }
 {}
 
-/// Every event that a move makes fits, and while the run is not over all is kept.
+/// Law: every event that a move makes fits. While the run is not over, everything in `specs/Kept.antt` holds.
 pub fn moves_fit<S>()
     ensures { (s : Strands S) → MovesFit s }
 {}
 
-/// The oldest fork of a deque is never split too early, and what is taken back is the newest that waits.
+/// Law: the oldest fork of a deque is never split too early. A fork that a worker takes back is the newest that waits.
 pub fn deques_are_in_order<S>()
     ensures oldest { (s : Strands S) → NoneIsEarly s }
     ensures newest { (s : Strands S) → ForksAreThere s }
 {}
 
-/// What the moves of workers come to is a closed run, whoever makes which move.
+/// Law: the moves of workers lead to a closed run, whoever makes which move.
 pub fn runs_are_closed<S>()
     ensures { (s : Strands S) → RunsAreClosed s }
 {}
 
-/// The record of the moves of any workers, of a compiled program, is coherent and has its outputs.
+/// Law: the record of the moves of any workers over a compiled program is coherent and has its outputs.
 pub fn records_are_coherent()
     ensures { RecordsAreCoherent }
 {}
 
-/// One worker splits no fork; and where none is split left strands go first, so no access is refused.
+/// Law: one worker splits no fork. If no fork is split, left strands go first, so no access is refused.
 pub fn one_worker_is_unrefused<S>()
     ensures splits { (s : Strands S) → OneSplitsNone s }
     ensures unsplit { UnsplitAreUnrefused }
     ensures unrefused { (s : Strands S) → OneIsUnrefused s }
 {}
 
-/// What the definitions say of runs of small sources.
+/// Computed examples: what the definitions say of runs of small sources.
 pub fn worked_moves()
     ensures { Rows }
 {}

@@ -24,20 +24,20 @@ use cw_strand::{Given, Saved, Want};
 use cw_tree::{Closed, Halt};
 use std::alloc::Global;
 
-/// The workers, the core that they share, and the strands of a program where they stand.
+/// The workers, the core that they share, and the strands of a program, each in its state.
 #[derive(Drop)]
 pub(crate) struct Driver<'a> {
     pub(crate) task: Task<'a>,
     pub(crate) core: Core,
-    /// The strands that stand somewhere: those that run, those that are still to be started, and those that have finished beside one that
-    /// has not. One that waits for its fork goes on in the right strand.
+    /// The strands in memory: those that run, those that have yet to start, and those that have finished while the other strand of
+    /// their fork has not. A strand that waits for its fork has no body: it goes on in the right strand.
     pub(crate) bodies: ByNode<Standing>,
-    /// The begins of pending blocks.
+    /// What is saved at the begins of pending blocks.
     pub(crate) saved: ByNode<Saved>,
     pub(crate) workers: Vec<Worker>,
 }
 
-/// A read is given the value, a write nothing.
+/// Returns what an access gives to its strand: the value for a read, nothing for a write.
 fn given_for(write: Option<i64>, value: i64) -> Given
     ensures { result ≡ given_for write value }
 {
@@ -47,13 +47,13 @@ fn given_for(write: Option<i64>, value: i64) -> Given
     }
 }
 
-// Each rule is the definition of its name.
+// Each rule does what the definition with its name says.
 impl<'a> Driver<'a> {
     ghost use Rattle.cw_sim.specs.ThingsInMemory.{thing_at};
     ghost use Rattle.cw_sim.specs.TurnsInMemory.{AreAt};
     ghost use Rattle.cw_sim.specs.InMemory.{Comes, Ends, HasFinished, MayAct, MayAnswer, MayDie, MayDo, MayFinish, MayFork, MayJoin, MayMeet, MayMove, MayRoll, MayTake, MayTurn, Seen, StandsFor, access_of, answered, law_of, opened};
 
-    /// Before the first move: worker 0 runs main, and the others are idle.
+    /// Returns the driver before the first move: worker 0 runs main, and the others are idle.
     fn opening(alloc: Global, task: Task<'a>, workers: u32) -> Result<Driver<'a>, OutOfMemory>
         requires words { TakesWords task.program.now (length task.words.now) }
         requires strands { 0 < task.limits.strands }
@@ -75,7 +75,7 @@ impl<'a> Driver<'a> {
         })
     }
 
-    /// The number of the next node.
+    /// Returns the number of the next node.
     fn next_node(&self) -> u32
         ensures { result ≡ length self.now.core.machine.tree }
     {
@@ -89,17 +89,17 @@ impl<'a> Driver<'a> {
         let _next = self.next_node();
     }
 
-    /// A halt, or the end of main.
+    /// Returns whether the run is over: by a halt, or by the end of main.
     fn is_over(&self) -> bool
         requires { (z : Seen) × StandsFor self.now z }
         ensures { (z : Seen) → StandsFor self.now z → result ≡ is_run_over z.m }
     {
-        // nothing has stopped where the core may still stop
+        // nothing has stopped if the core may still stop
         let goes_on = self.core.fits(&Event::Stop { halt: Halt::Memory });
         !goes_on || self.core.has_finished(0)
     }
 
-    /// Worker w, which is idle, takes the oldest fork of worker v: it is split, and its right strand is w's.
+    /// Takes the oldest fork of worker `v` for worker `w`, which is idle. The fork is split, and `w` runs its right strand.
     fn takes(&mut self, w: u32, v: usize) -> Result<(), OutOfMemory>
         requires { (z : Seen) × MayTake self.old w v z }
         ensures { OnOk result ((z : Seen) → MayTake self.old w v z → (f : ℕ) (fs : List ℕ) → (worker z.m v).deque ≡ f ∷ fs → Comes self.new z (takes w v f fs z.m)) }
@@ -113,7 +113,7 @@ impl<'a> Driver<'a> {
         Ok(())
     }
 
-    /// Worker w, which is idle, takes a fork of the next worker that has one.
+    /// Takes a fork for worker `w`, which is idle, from the next worker that has one.
     fn steals(&mut self, w: u32) -> Result<(), OutOfMemory>
         requires { (z : Seen) × MayMove self.old w z }
         ensures { OnOk result ((z : Seen) → MayMove self.old w z → Comes self.new z (steals w (others z.m w) z.m)) }
@@ -124,8 +124,8 @@ impl<'a> Driver<'a> {
         }
     }
 
-    /// Both strands of a fork have finished: they join, and worker w goes on with the strand that forked. Where that is dying, so were they,
-    /// and its body is the right one's as it stands.
+    /// Joins `fork`, whose strands have both finished. Worker `w` goes on with the strand that forked. If that is dying, so were
+    /// they, and it gets the body of the right strand as it is.
     fn joins(&mut self, w: u32, fork: u32) -> Result<(), OutOfMemory>
         requires { (z : Seen) × MayJoin self.old w fork z }
         ensures { OnOk result ((z : Seen) → MayJoin self.old w fork z → Comes self.new z (joins (law_of z) w fork z.m)) }
@@ -158,8 +158,8 @@ impl<'a> Driver<'a> {
         Ok(())
     }
 
-    /// The left strand of a fork has finished, and its right one waits in worker w: after a live one w goes on with it, after a dead one
-    /// it finishes dead, too, and they join.
+    /// Goes on from the left strand of `fork`, which has finished, to the right one, which waits in worker `w`. After a live left
+    /// strand, `w` goes on with the right one. After a dead one, the right one finishes dead, too, and they join.
     fn goes_to_right(&mut self, w: u32, fork: u32, dead: bool) -> Result<(), OutOfMemory>
         requires { (z : Seen) × MayTurn self.old w fork dead z }
         ensures { OnOk result ((z : Seen) → MayTurn self.old w fork dead z → Comes self.new z (goes_to_right (law_of z) w fork dead z.m)) }
@@ -175,7 +175,7 @@ impl<'a> Driver<'a> {
         Ok(())
     }
 
-    /// One of the strands of a fork has finished: they join where the other one has, too, and else worker w is idle.
+    /// Joins `fork`, of which one strand has just finished, if the other one has finished, too. Otherwise worker `w` is idle.
     fn joins_or_idles(&mut self, w: u32, fork: u32) -> Result<(), OutOfMemory>
         requires { (z : Seen) × MayMeet self.old w fork z }
         ensures { OnOk result ((z : Seen) → MayMeet self.old w fork z → Comes self.new z (joins_or_idles (law_of z) w fork (has_finished z.m.core.machine (left_node fork) && has_finished z.m.core.machine (right_node fork)) z.m)) }
@@ -188,7 +188,8 @@ impl<'a> Driver<'a> {
         Ok(())
     }
 
-    /// After main, nothing; after the left strand of a fork that was not split, its right one; else the strand that forked.
+    /// Does what follows a finished strand: after main nothing; after the left strand of an unsplit fork its right strand;
+    /// otherwise the join of the fork, if both strands have finished.
     fn follows(&mut self, w: u32, strand: u32, dead: bool) -> Result<(), OutOfMemory>
         requires { (z : Seen) × HasFinished self.old w strand dead z }
         ensures { OnOk result ((z : Seen) → HasFinished self.old w strand dead z → Comes self.new z (follows (law_of z) w strand dead z.m)) }
@@ -205,7 +206,7 @@ impl<'a> Driver<'a> {
         self.joins_or_idles(w, fork)
     }
 
-    /// A strand of worker w has come to its end.
+    /// Finishes `strand`, which worker `w` runs.
     fn finishes(&mut self, w: u32, strand: u32, dead: bool) -> Result<(), OutOfMemory>
         requires { (z : Seen) × MayFinish self.old w strand dead z }
         ensures { OnOk result ((z : Seen) → MayFinish self.old w strand dead z → Comes self.new z (finishes (law_of z) w strand dead z.m)) }
@@ -214,7 +215,7 @@ impl<'a> Driver<'a> {
         self.follows(w, strand, dead)
     }
 
-    /// The innermost pending block of a strand that is dying is rolled back, and the strand stands at its begin again.
+    /// Rolls back the innermost pending block of a dying strand. The strand is at the begin of the block again.
     fn rolls(&mut self, strand: u32) -> Result<(), OutOfMemory>
         requires { (z : Seen) × MayRoll self.old strand z }
         ensures { OnOk result ((z : Seen) → MayRoll self.old strand z → Comes self.new z (with_strand strand (z.m.saved (place (tree z.m) strand)) (does (event.Roll strand) z.m))) }
@@ -235,7 +236,7 @@ impl<'a> Driver<'a> {
         self.bodies.put(strand, body)
     }
 
-    /// A strand that is dying rolls back a block, or finishes dead where it has none.
+    /// Rolls back a block of a dying strand, or finishes the strand dead if it has no block.
     fn dies(&mut self, w: u32, strand: u32) -> Result<(), OutOfMemory>
         requires { (z : Seen) × MayDie self.old w strand z }
         ensures { OnOk result ((z : Seen) → MayDie self.old w strand z → Comes self.new z (dies (law_of z) w strand z.m)) }
@@ -247,7 +248,7 @@ impl<'a> Driver<'a> {
         }
     }
 
-    /// A strand goes on to its next want, once this one is answered.
+    /// Answers the want of `strand`, which goes on to its next want.
     fn answers(&mut self, strand: u32, given: Given) -> Result<(), OutOfMemory>
         requires { (z : Seen) × MayAnswer self.old strand z }
         ensures stands { OnOk result ((z : Seen) → MayAnswer self.old strand z → StandsFor self.new (answered strand given z)) }
@@ -258,7 +259,7 @@ impl<'a> Driver<'a> {
         self.bodies.put(strand, body)
     }
 
-    /// The run stops.
+    /// Stops the run.
     fn stops(&mut self, halt: Halt) -> Result<(), OutOfMemory>
         requires { fits self.old.core (event.Stop halt) ≡ true }
         ensures { OnOk result ((z : Seen) → StandsFor self.old z → StandsFor self.new (record z { m = does (event.Stop halt) z.m })) }
@@ -267,7 +268,7 @@ impl<'a> Driver<'a> {
         Ok(())
     }
 
-    /// It stops where the last attempt that a block or an access may have was refused.
+    /// Stops the run if the last attempt of a block or an access was refused.
     fn stops_if_spent(&mut self) -> Result<(), OutOfMemory>
         requires { self.old.core.halt ≡ None }
         ensures { OnOk result ((z : Seen) → StandsFor self.old z → StandsFor self.new (record z { m = stops_if_spent (law_of z) z.m })) }
@@ -278,7 +279,7 @@ impl<'a> Driver<'a> {
         }
     }
 
-    /// An access is answered; a strand whose access is refused stands where it stood.
+    /// Makes an access of `strand` and answers it. If it is refused, the strand stays where it is.
     fn accesses(&mut self, strand: u32, cell: u32, write: Option<i64>) -> Result<(), OutOfMemory>
         requires { (z : Seen) × MayDo self.old strand (access_of cell write) z }
         ensures { OnOk result ((z : Seen) → MayDo self.old strand (access_of cell write) z → Comes self.new z (accesses (law_of z) strand cell write z.m)) }
@@ -293,7 +294,7 @@ impl<'a> Driver<'a> {
         }
     }
 
-    /// A value is put out.
+    /// Outputs `value`.
     fn puts_out(&mut self, strand: u32, value: i64) -> Result<(), OutOfMemory>
         requires { (z : Seen) × MayDo self.old strand (Want.Out value) z }
         ensures { OnOk result ((z : Seen) → MayDo self.old strand (Want.Out value) z → Comes self.new z (answers (law_of z) strand given.Nothing (does (event.Out strand value) z.m))) }
@@ -302,7 +303,7 @@ impl<'a> Driver<'a> {
         self.answers(strand, Given::Nothing)
     }
 
-    /// A block begins, and what its strand needs to go back there is saved.
+    /// Begins a block, and saves what its strand needs to go back there.
     fn begins(&mut self, strand: u32) -> Result<(), OutOfMemory>
         requires { (z : Seen) × MayDo self.old strand Want.Begin z }
         ensures { OnOk result ((z : Seen) → MayDo self.old strand Want.Begin z → Comes self.new z (begins (law_of z) strand z.m)) }
@@ -314,7 +315,7 @@ impl<'a> Driver<'a> {
         self.answers(strand, Given::Nothing)
     }
 
-    /// The innermost block of a strand ends.
+    /// Ends the innermost block of `strand`.
     fn ends(&mut self, strand: u32) -> Result<(), OutOfMemory>
         requires { (z : Seen) × MayDo self.old strand Want.End z }
         ensures comes { OnOk result ((z : Seen) → MayDo self.old strand Want.End z → Comes self.new z (answers (law_of z) strand given.Nothing (does (event.Commit strand) z.m))) }
@@ -326,7 +327,7 @@ impl<'a> Driver<'a> {
         self.answers(strand, Given::Nothing)
     }
 
-    /// The innermost block of a strand is given up, and the strand is told what to put back.
+    /// Gives up the innermost block of `strand`, and tells the strand what to put back.
     fn gives_up(&mut self, strand: u32) -> Result<(), OutOfMemory>
         requires { (z : Seen) × MayDo self.old strand Want.Cancel z }
         ensures { OnOk result ((z : Seen) → MayDo self.old strand Want.Cancel z → Comes self.new z (gives_up (law_of z) strand z.m)) }
@@ -337,7 +338,7 @@ impl<'a> Driver<'a> {
         }
     }
 
-    /// A strand of worker w forks, and w goes on with the left strand.
+    /// Forks `strand`, which worker `w` runs. `w` goes on with the left strand.
     fn forks(&mut self, w: u32, strand: u32) -> Result<(), OutOfMemory>
         requires { (z : Seen) × MayFork self.old w strand z }
         ensures { OnOk result ((z : Seen) → MayFork self.old w strand z → Comes self.new z (forks (law_of z) w strand z.m)) }
@@ -375,7 +376,7 @@ impl<'a> Driver<'a> {
         Ok(())
     }
 
-    /// A strand of worker w does what it wants.
+    /// Does what `strand` wants, which worker `w` runs.
     fn acts(&mut self, w: u32, strand: u32, want: Want) -> Result<(), OutOfMemory>
         requires { (z : Seen) × MayAct self.old w strand want z }
         ensures { OnOk result ((z : Seen) → MayAct self.old w strand want z → Comes self.new z (acts (law_of z) w strand want z.m)) }
@@ -393,7 +394,7 @@ impl<'a> Driver<'a> {
         }
     }
 
-    /// A move of worker w.
+    /// Makes a move of worker `w`.
     fn moves(&mut self, w: u32) -> Result<(), OutOfMemory>
         requires { (z : Seen) × MayMove self.old w z }
         ensures { OnOk result ((z : Seen) → MayMove self.old w z → Comes self.new z (move (law_of z) w z.m)) }
@@ -408,7 +409,7 @@ impl<'a> Driver<'a> {
         self.acts(w, strand, want)
     }
 
-    /// Moves are made until the run is over, at most as many as the limit says.
+    /// Makes moves until the run is over, at most as many as the limit says.
     fn runs(&mut self, turns: &mut Turns) -> Result<(), OutOfMemory>
         requires compiled { IsCompiled self.old.task.program.now }
         requires words { TakesWords self.old.task.program.now (length self.old.task.words.now) }
@@ -428,7 +429,7 @@ impl<'a> Driver<'a> {
     }
 }
 
-/// What the moves of so many workers leave, in the turns of a schedule, and whether they were used up.
+/// Returns what the moves of `workers` workers leave, in the turns of a schedule, and whether the moves were used up.
 pub(crate) fn moved(
     alloc: Global,
     task: Task,

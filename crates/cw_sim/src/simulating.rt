@@ -16,10 +16,10 @@ use cw_job::Task;
 use cw_record::{Record, build};
 use std::alloc::Global;
 
-/// The run of so many virtual workers over one core, each of which makes a move when its turn comes, by a schedule. It ends by itself, at the
-/// first fault, where the last attempt that a block or an access may have was refused, or once its moves are used up. One worker is refused
-/// nothing, and goes depth first, as `depth_first` does, to its end or to the first fault, unless its moves are used up before. The only
-/// error is want of memory.
+/// Runs a program with `workers` virtual workers over one core. Each makes a move when its turn comes, by a schedule. The run ends
+/// by itself, at the first fault, when the last attempt of a block or an access is refused, or once its moves are used up. A single
+/// worker is refused nothing. It goes depth first, as `depth_first` does, to its end or to the first fault, unless its moves are
+/// used up before. The only error is out of memory.
 pub fn simulate(
     alloc: Global,
     program: Program,

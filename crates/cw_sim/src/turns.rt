@@ -3,7 +3,7 @@ ghost use Rattle.cw_sim.specs.Turns.{ListsWorkers, worker_at};
 
 use cw_io::{Lcg, Schedule};
 
-/// So many workers are drawn by a seed.
+/// How many workers are drawn from a seed.
 const DRAWN: u64 = 100_000;
 
 /// Who makes the moves, one after another.
@@ -11,14 +11,14 @@ const DRAWN: u64 = 100_000;
 pub(crate) struct Turns<'a> {
     schedule: &'a Schedule,
     workers: u32,
-    /// By a seed, after as many draws as moves were made.
+    /// For a seed: the generator, after as many draws as moves were made.
     drawing: Lcg,
 }
 
 impl<'a> Turns<'a> {
     ghost use Rattle.cw_sim.specs.TurnsInMemory.{AreAt};
 
-    /// Before the first move.
+    /// Returns the turns before the first move.
     pub(crate) fn new(schedule: &'a Schedule, workers: u32) -> Turns<'a>
         requires listed { ListsWorkers schedule.now workers }
         requires workers { 0 < workers }
@@ -37,7 +37,7 @@ impl<'a> Turns<'a> {
         }
     }
 
-    /// Of those that take turns from 0, the one of this number.
+    /// Returns the worker with number `n`, if workers take turns from 0 on.
     fn round(&self, n: u64) -> u32
         requires { 0 < self.now.workers }
         ensures { result ≡ n % self.now.workers }
@@ -45,7 +45,7 @@ impl<'a> Turns<'a> {
         (n % u64::from(self.workers)) as u32
     }
 
-    /// The worker that makes the move of this number, which is the next one.
+    /// Returns the worker that makes move `n`, which is the next move.
     pub(crate) fn worker_at(&mut self, n: u64) -> u32
         requires { AreAt self.old n }
         ensures worker { result ≡ worker_at self.old.schedule.now self.old.workers n }

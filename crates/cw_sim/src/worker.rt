@@ -5,20 +5,20 @@ use cw_base::OutOfMemory;
 use std::alloc::Global;
 use std::collections::VecDeque;
 
-/// A worker. Of each fork that waits in it the right strand is still to be started, while the worker runs in the left one.
+/// A worker. It runs in the left strand of each fork that waits in it. The right strand of such a fork has yet to start.
 #[derive(Drop)]
 pub(crate) struct Worker {
-    /// The strand that it runs, if it is not idle.
+    /// The strand that it runs, or `None` if it is idle.
     pub(crate) runs: Option<u32>,
-    /// The forks that others may take from it, oldest first.
+    /// The forks that other workers may take from it, oldest first.
     pub(crate) deque: VecDeque<u32>,
-    /// Those that they may not: their strands have no columns.
+    /// The forks that others may not take: their strands have no columns.
     pub(crate) inline: Vec<u32>,
 }
 
 ghost use Rattle.cw_sim.specs.WorkersInMemory.{first_with_forks, workers_next, IsLast, without_waiting, workers_of};
 
-/// A worker in which no fork waits.
+/// Returns a worker in which no fork waits.
 fn resting(alloc: Global, runs: Option<u32>) -> Worker
     ensures runs { result.runs ≡ runs }
     ensures deque { result.deque.items ≡ [] }
@@ -31,7 +31,7 @@ fn resting(alloc: Global, runs: Option<u32>) -> Worker
     }
 }
 
-/// So many workers, of which the first runs strand 0 and the others are idle.
+/// Returns `workers` workers: the first runs strand 0, and the others are idle.
 pub(crate) fn opening(alloc: Global, workers: u32) -> Result<Vec<Worker>, OutOfMemory>
     requires { 0 < workers }
     ensures { IfOk result (λ ws. workers_of ws.items ≡ record idle { runs = Some 0 } ∷ replicate (workers - 1) idle) }
@@ -44,7 +44,7 @@ pub(crate) fn opening(alloc: Global, workers: u32) -> Result<Vec<Worker>, OutOfM
     Ok(all)
 }
 
-/// The first worker after worker w, round and round, from which a fork may be taken.
+/// Returns the first worker after worker `w`, going round, from which a fork may be taken.
 pub(crate) fn robbed(workers: &[Worker], w: u32) -> Option<usize>
     requires { w < length workers.now }
     ensures { result ≡ first_with_forks (workers_of workers.now) (workers_next w (length workers.now)) }
@@ -59,7 +59,7 @@ pub(crate) fn robbed(workers: &[Worker], w: u32) -> Option<usize>
     None
 }
 
-/// Worker w goes on with this strand, or is idle.
+/// Makes worker `w` run this strand, or makes it idle.
 pub(crate) fn with_run(workers: &mut Vec<Worker>, w: u32, runs: Option<u32>)
     requires { w < vec_len workers.old }
     ensures { workers_of workers.new.items ≡ slice_set (workers_of workers.old.items) w (record (worker_in (workers_of workers.old.items) w) { runs = runs }) }
@@ -68,7 +68,7 @@ pub(crate) fn with_run(workers: &mut Vec<Worker>, w: u32, runs: Option<u32>)
     worker.runs = runs;
 }
 
-/// The oldest fork that waits in the deque of worker w is taken.
+/// Takes the oldest fork from the deque of worker `w`.
 pub(crate) fn take_oldest(workers: &mut Vec<Worker>, w: usize) -> Option<u32>
     requires { w < vec_len workers.old }
     ensures { (f : ℕ) (fs : List ℕ) → (worker_in (workers_of workers.old.items) w).deque ≡ f ∷ fs → (result ≡ Some f)
@@ -78,7 +78,7 @@ pub(crate) fn take_oldest(workers: &mut Vec<Worker>, w: usize) -> Option<u32>
     worker.deque.pop_front()
 }
 
-/// The fork that waits last in worker w no more waits.
+/// Removes the fork that waits last in worker `w`.
 pub(crate) fn take_newest(workers: &mut Vec<Worker>, w: u32, _fork: u32)
     requires there { w < vec_len workers.old }
     requires last { IsLast (worker_in (workers_of workers.old.items) w) _fork }
@@ -90,7 +90,7 @@ pub(crate) fn take_newest(workers: &mut Vec<Worker>, w: u32, _fork: u32)
     }
 }
 
-/// A new fork waits in worker w, too, in its deque where its strands have columns.
+/// Makes a new fork wait in worker `w`: in its deque if the strands have columns, otherwise inline.
 pub(crate) fn with_fork(
     workers: &mut Vec<Worker>,
     w: u32,
