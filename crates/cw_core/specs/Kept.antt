@@ -51,7 +51,8 @@ pub record IsTail (t : List Node) (n : ℕ) (r : Tail) : Type 0 where
   pub aborted : suffix_len (is_aborted t) (children t n) ≡ r.aborted
   pub tried : (c : ℕ) → suffix_len (λ m. same_cell (tried_cell t m) (Some c)) (children t n) ≡ (if r.cell == c then r.tried else 0)
 
--- block v is pending, and has to fall for access c, which was refused beneath strand s and not beneath an unjoined fork of s
+-- block v is pending, and has to be rolled back for access c, which was refused beneath strand s and not beneath an unjoined fork
+-- of s
 pub record IsAtStake (m : OpenMachine) (s : ℕ) (c : Conflict) (v : ℕ) : Type 0 where
   pub over : is_above m.tree s c.asker ≡ true
   pub falls : falls m c v ≡ true
@@ -61,7 +62,7 @@ pub record IsAtStake (m : OpenMachine) (s : ℕ) (c : Conflict) (v : ℕ) : Type
 abbrev pub is_counted : OpenMachine → ℕ → Bool
 is_counted m s = if has_finished m s then not (has m.joined (parent_of m.tree s)) else is_running m s
 
--- the outermost block that has to fall for an access refused beneath strand s
+-- the outermost block that has to be rolled back for an access refused beneath strand s
 abbrev pub IsVictim : OpenMachine → ℕ → Option ℕ → Type 0
 IsVictim m s None = (i v : ℕ) (c : Conflict) → slice_get m.conflicts i ≡ Some c → IsAtStake m s c v → v < 0
 IsVictim m s (Some w) =
@@ -233,7 +234,7 @@ tried_tail c r = record { started = true; aborted = 0; tried = tried_again c r; 
 abbrev pub conflict_with : Barrier → (c asker : ℕ) → Refused → List ℕ → Conflict
 conflict_with b c asker refused chain = record { cell = c; last = b.last.stamp; asker = asker; block = b.block; victim = refused.victim; attempt = refused.attempt; chain = chain }
 
--- the row of a strand in which a block has to fall for a refused access
+-- the row of a strand in which a block has to be rolled back for a refused access
 abbrev pub with_victim : Option ℕ → Row → Row
 with_victim victim r = record r { now = record r.now { victim = victim } }
 

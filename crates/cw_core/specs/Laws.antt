@@ -40,7 +40,7 @@ pub record IsCore (first : List ℤ) (k : CoreState) : Type 0 where
 
 -- ## Events
 
--- so it is before the first event, with room for at least one strand
+-- the core does so before the first event, if there is room for at least one strand
 abbrev pub StartsAreCores : Type 0
 StartsAreCores = (first : List ℤ) (room budget : ℕ) → 0 < room → IsCore first (start first room budget)
 
@@ -58,7 +58,7 @@ ListsAreRuns =
 
 -- ## What follows
 
--- the list of each cell has exactly its live accesses, and they are a chain
+-- the list of each cell has exactly its live accesses, which are a chain
 abbrev pub HasChains : CoreState → Type 0
 HasChains k = (c : ℕ) → (live k.machine c ≡ map (stamp_of k.machine.tree) (live_accesses k.machine.tree c)) × IsChainOf k.machine.tree c (live k.machine c)
 

@@ -22,8 +22,8 @@ put_link p n links =
       with_link None = links
       with_link (Some r) = slice_set links p (record r { last = Some n }) ++ record { last = None; elder = r.last } ∷ []
 
--- A walk came down to node n, or is done with all beneath it. It goes on to the last child of n, to the child before n, or to the
--- parent of n. It leaves out what is beneath an aborted block.
+-- Node n is reached from above (true), or all beneath it is done (false). The walk goes on to the last child of n, to the child
+-- before n, or to the parent of n. It leaves out what is beneath an aborted block.
 abbrev pub next_in_walk : List Node → ℕ → Bool → ℕ × Bool
 next_in_walk t n true = if is_aborted t n then (n, false) else into (last_child t n) where
   into : Option ℕ → ℕ × Bool

@@ -28,7 +28,7 @@ HasIfLater stamp es = (i : ℕ) (e : Entry) → slice_get es i ≡ Some e → st
 abbrev pub MayCut : List Node → ℕ → List CellParts → Type 0
 MayCut t n cells = (c : ℕ) → touches t c n ≡ true → (x : CellParts) × (slice_get cells c ≡ Some x) × (x.cleaned ≡ 0) × HasIfLater (stamp_of t n) x.entries
 
--- the entries of cell c after that of node n and those behind it are gone
+-- the entries of cell c without that of node n and those after it
 abbrev pub cut_entries : List Node → (n c : ℕ) → List Entry → List Entry
 cut_entries t n c es = if touches t c n then before_stamp (stamp_of t n) es else es
 

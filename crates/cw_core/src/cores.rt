@@ -204,7 +204,7 @@ impl Core {
         !contains_by(&mut held, block, last, looks, compares)
     }
 
-    /// Returns the outermost block that may fall for an access, among `place` and the nodes above it.
+    /// Returns the outermost block that may be rolled back for an access, among `place` and the nodes above it.
     fn victim<K: Ledger, L: Ledger>(
         &self,
         place: u32,

@@ -14,8 +14,8 @@ pub(crate) struct Barrier {
     pub(crate) block: u64,
 }
 
-/// What is refused with an access: the block that has to fall, by its begin stamp, or the access itself if `victim` is 0. Also the
-/// number of its attempt, and its strand.
+/// What is refused with an access: the block that has to be rolled back, by its begin stamp, or the access itself if `victim` is 0.
+/// Also the number of its attempt, and its strand.
 #[derive(Clone, Copy, Drop)]
 pub(crate) struct Refused {
     pub(crate) victim: u64,

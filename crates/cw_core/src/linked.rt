@@ -158,9 +158,8 @@ impl Linked {
         self.tree.close(block, state, end);
     }
 
-    /// Returns where a walk beneath a block goes on from `node`. If it came `down` to the node, it goes to the last child. If all
-    /// beneath the node is done, it goes to the child before it or up to its parent. It leaves out what is beneath an aborted
-    /// block.
+    /// Returns the next step of a walk beneath a block. If the walk came `down` to `node`, it goes to the last child. If all
+    /// beneath `node` is done, it goes to the child before it or up to its parent. It leaves out what is beneath an aborted block.
     pub(crate) fn next_in_walk(&self, node: u32, down: bool) -> (u32, bool)
         requires { node < length self.now }
         ensures { result ≡ next_in_walk self.now node down }

@@ -38,13 +38,13 @@ pub(crate) const PLAIN: Tail = Tail {
 /// What has become of a node.
 #[derive(Clone, Copy, Drop)]
 pub(crate) struct Now {
-    /// For a strand: where its next node goes.
+    /// For a strand: the place of its next node.
     pub(crate) place: u32,
     /// Whether a fork that the strand made is not joined.
     pub(crate) waits: bool,
     pub(crate) finished: bool,
     pub(crate) dead: bool,
-    /// For a strand: the outermost pending block that has to fall for an access refused beneath it.
+    /// For a strand: the outermost pending block that has to be rolled back for an access refused beneath it.
     pub(crate) victim: Option<u32>,
     /// For a fork: whether it was split, and whether it was joined.
     pub(crate) split: bool,
@@ -127,7 +127,7 @@ pub(crate) fn tried_tail(cell: u32, tail: Tail) -> Tail
     }
 }
 
-/// Adds a refused access as the last child of `place`. A block may have to fall for it: `victim`.
+/// Adds a refused access as the last child of `place`. `victim` is the block that may have to be rolled back for it.
 pub(crate) fn put_tried(
     table: &mut Vec<Row>,
     strand: u32,
@@ -190,7 +190,7 @@ pub(crate) fn join_rows(table: &mut Vec<Row>, fork: u32, strand: u32, victim: Op
     row.now.joined = true;
 }
 
-/// Records that the block at the place of `strand` was closed: it is now the last child of `parent`, where the strand goes on.
+/// Records that the block at the place of `strand` was closed. It is now the last child of `parent`, and the strand goes on there.
 pub(crate) fn close_row(table: &mut Vec<Row>, strand: u32, parent: u32, tail: Tail)
     requires strand { strand < vec_len table.old }
     requires parent { parent < vec_len table.old }
@@ -270,8 +270,8 @@ fn without(block: u32, number: Option<u32>) -> Option<u32>
     }
 }
 
-/// Records that `block`, at the place of `strand`, was rolled back in attempt `attempt`: it is now the last child of `parent`,
-/// where the strand goes on, and it no longer has to fall.
+/// Records that `block`, at the place of `strand`, was rolled back in attempt `attempt`. It is now the last child of `parent`, and
+/// the strand goes on there. It no longer has to be rolled back.
 pub(crate) fn roll_row(table: &mut Vec<Row>, strand: u32, block: u32, parent: u32, attempt: u32)
     requires strand { strand < vec_len table.old }
     requires parent { parent < vec_len table.old }

@@ -64,7 +64,7 @@ pub(crate) fn undo(tree: &Linked, cells: &mut Vec<Cell>, block: u32)
     }
 }
 
-/// Aborts `block`, once the cells have nothing left of what was done beneath it. `_cells` is there for that condition alone.
+/// Aborts `block`, once the cells have nothing left of what was done beneath it. `_cells` is only there for that condition.
 pub(crate) fn abort(tree: &mut Linked, _cells: &Vec<Cell>, block: u32, end: u64)
     requires block { IsTrue (is_block tree.old block) }
     requires undone { NoneBeneath tree.old block _cells.now.items }

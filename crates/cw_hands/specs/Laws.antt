@@ -65,7 +65,7 @@ OrderIsKept = OfEachMoment OrderYet
 abbrev pub ReadyGoOn : Type 0
 ReadyGoOn = OfEachMoment (λ s. (x : ℕ) → IsTrue (goes_on s x) → GoesOnAt (moment_of s) (place_at s x))
 
--- and no other running strand may
+-- no other running strand may go on
 abbrev pub OnlyReadyGoOn : Type 0
 OnlyReadyGoOn = OfEachMoment (λ s. (x : ℕ) → IsTrue (is_running s.machine x) → GoesOnAt (moment_of s) (place_at s x) → IsTrue (goes_on s x))
 
@@ -98,7 +98,7 @@ pub record IsLeftReady (s u : SharedMoment) (x : ℕ) : Type 0 where
   pub word : slice_index u.words (gap_at u.columns u.machine.tree (place_at u x)) ≡ slice_index s.words (gap_at s.columns s.machine.tree (place_at s x))
   pub later : (number : ℕ) → IsLater s.columns s.machine.tree (place_at s x) number → IsLater u.columns u.machine.tree (place_at u x) number
 
--- so is each strand that goes on, after a step that is not about it
+-- a step that is not about a strand that goes on leaves it so
 abbrev pub OthersLeaveReady : Type 0
 OthersLeaveReady =
     (asked : List Node → List ℕ → Option ℤ → List ℕ) (first : List ℤ) (s u : SharedMoment) (e : SharedStep (at_any_time asked) s u) (x : ℕ)

@@ -94,7 +94,7 @@ pub record NoneOwed : Type 0 where
   pub whole : RunsTogether any_rules [] (rejoined forked_once)
   pub whole_joins : (rejoined forked_once).joins ≡ 1 ∷ []
   pub whole_goes : goes_on (rejoined forked_once) 0 ≡ true
-  -- the same without columns
+  -- an inline fork is joined, and main goes on at once, too
   pub inline : RunsTogether any_rules [] (rejoined inline_once)
   pub inline_columns : has_columns inline_once 1 ≡ false
   pub inline_waits : (goes_on inline_once 2 ≡ true) × (goes_on inline_once 3 ≡ false)

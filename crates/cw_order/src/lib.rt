@@ -1,5 +1,5 @@
-//! Order lists: whether one element comes before another takes one step to tell. Also the counter of such steps.
-//! Use it for elements that are inserted and removed while their order is asked for.
+//! Order lists: lists in which one step tells which of two elements comes first. Also the counter of such steps.
+//! Use one for elements that are inserted and removed while their order is asked for.
 //! Contracts see an `OrderList` as `specs/Order.antt` has it: its elements in order, and how many it can hold.
 #![tactic(auto)]
 

@@ -74,7 +74,8 @@ items_in t p (suc k) b =
 abbrev pub place_of_refused : List Node → Conflict → ℕ
 place_of_refused t c = if is_some (victim_of c) then parent_of t (refused_node t c) else c.asker
 
--- Where a run ended. The order contains the pending blocks above this place, and the place itself if it is a pending block.
+-- The place where a run ended. The order contains the pending blocks above this place, and the place itself if it is a pending
+-- block.
 abbrev pub place_of_end : List Node → List Conflict → ℕ → RecordEnd → ℕ
 place_of_end t cs budget (Finished memory outputs) = 0
 place_of_end t cs budget (Fault s kind) = place t s

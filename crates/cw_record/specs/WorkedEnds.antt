@@ -1,5 +1,5 @@
--- Small records that came to each of the ends that are not main's own: a fault, a budget that was spent in a block and one that was
--- spent by an access, and moves that were used up. Each is coherent, and is not if one thing is changed.
+-- Small records with each of the ends that are not main's own: a fault, a budget that was spent in a block and one that was spent
+-- by an access, and moves that were used up. Each is coherent, and is not if one thing is changed.
 use Rattle.std.specs.Prelude.{◌≡◌, ℕ, ℤ, List, [], ◌∷◌, ◌++◌, pos, true, false}
 use Rattle.cw_code.specs.declared.FaultKind.TheVariants.{Zero, Overflow}
 use Rattle.cw_strand.specs.declared.want.Want.TheVariants.{Load, Store, Out as Shows, Begin, End, Fault as Fails}
@@ -117,7 +117,7 @@ pub record AtAccess : Type 0 where
 abbrev pub counts : Script
 counts = act (Load 0) (act (Store 0 (pos 1)) (act (Load 0) (act (Shows (pos 1)) done)))
 
--- four nodes after the root, of which the third read this value
+-- four nodes after the root; the third of them read this value
 abbrev pub counted : (value : ℤ) → List Node
 counted value = plain 0 Strand 0 ∷ plain 0 (Read 0 (pos 0)) 1 ∷ plain 0 (Write 0 (pos 1)) 2 ∷ plain 0 (Read 0 value) 3 ∷ plain 0 (Out (pos 1)) 4 ∷ []
 

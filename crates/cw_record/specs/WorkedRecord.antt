@@ -68,8 +68,8 @@ IsRecord e = IsCoherent writers (pos 0 ∷ []) 2 two_blocks (two_writes ∷ []) 
 abbrev pub HasThese : RecordEnd → Type 0
 HasThese e = HasOutputs two_blocks (refused_write ∷ []) 2 e
 
--- Its strands keep the law, and it is coherent, with its outputs. It is not with another memory, nor with an output that nobody
--- made.
+-- The strands keep the law. The record is coherent, with its outputs. It is not coherent with another memory, and it does not have
+-- an output that nobody made.
 pub record Coherent : Type 0 where
   pub lawful : IsLawful writers
   pub holds : IsRecord (Finished (pos 2 ∷ []) [])

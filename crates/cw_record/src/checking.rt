@@ -166,7 +166,7 @@ fn difference(cells: u32, kept: &RecordEnd, end: &SerialEnd) -> Result<Checked, 
     })
 }
 
-/// Returns the values at `place`, where two lists differ, as a difference at `cell`.
+/// Returns the values at position `place`, at which two lists differ, as a difference at `cell`.
 fn told(cell: u32, place: usize, kept: &[i64], replayed: &[i64]) -> Checked
     ensures { result ≡ Disagree cell (value_at kept.now place) (value_at replayed.now place) }
 {

@@ -42,7 +42,7 @@ pub fn worked_record()
     ensures coherent { Coherent }
 {}
 
-/// Computed examples: small records that came to each end that is not main's own are coherent, and are not if one thing is changed.
+/// Computed examples: small records with each end that is not main's own are coherent, and are not if one thing is changed.
 pub fn worked_ends()
     ensures { Ends }
 {}

@@ -44,7 +44,7 @@ struct Pass {
 }
 
 impl Pass {
-    // Returns a pass over the root alone.
+    // Returns a pass that has seen the root only.
     fn of_root(alloc: Global, tree: &Tree) -> Result<Pass, OutOfMemory>
         ensures passed { IfOk result (λ pass. IsPassed tree.now 1 pass.names.items pass.forks.items pass.numbers.items) }
         ensures undone { IfOk result (λ pass. UndoneAt tree.now 0 pass.undone) }

@@ -104,11 +104,11 @@ pub fn build(
     ensures end { IfOk result (λ r. r.end ≡ end_left (first_memory program.cells) limits.aborts closed spent) }
     ensures outputs { IfOk result (λ r. HasItsOutputs r) }
 
-    // what a closed run of the program's strands left in depth-first order is coherent, and so numbered
+    // if a closed run of the program's strands left this, in depth-first order, the record is coherent, and so numbered
     ensures coherent { IfOk result (λ r. (m : OpenMachine) (h : Option Halt) →
         IsLeftBy (record { program = program; words = words; limits = limits }) spent m h closed → IsCoherentRun r) }
 
-    // and so is whatever strands of the program may leave, however they were run
+    // it is also coherent if strands of the program may leave this, however they were run
     ensures followed { IfOk result (λ r.
         AreLeft (strands_of_job (record { program = program; words = words; limits = limits })) (first_memory program.cells) limits.aborts spent closed → IsCoherentRun r) }
     ensures numbered { IfOk result (λ r. (t : List Node) →

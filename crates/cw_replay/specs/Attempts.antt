@@ -38,7 +38,7 @@ pub data AreRecorded (t : List Node) (cs : List Conflict) (budget s : ℕ) (told
 abbrev pub RecordsAttempts : List Node → List Conflict → (budget s : ℕ) → Type 0
 RecordsAttempts t cs budget s = (told : Conflict) × (telling t cs budget s ≡ Some told) × AreRecorded t cs budget s told
 
--- Laws of every history: a conflict comes only of strands that run at the same time, and a budget is spent only on recorded attempts.
+-- Laws of every history: only strands that run at the same time have conflicts, and a budget is spent only on recorded attempts.
 abbrev pub ConflictsNeedForks : Type 0
 ConflictsNeedForks = (t : List Node) (first : List ℤ) (kept : List (List Entry)) (cs : List Conflict) → IsHistory t first kept cs
     → (c : Conflict) → Contains cs c → (f : ℕ) × IsTrue (is_fork t f)

@@ -28,7 +28,7 @@ RecordsReplay s =
     → IsCoherent s first budget t kept cs e
     -- and the outputs of a run that finished are those of its output nodes
     → HasOutputs t cs budget e
-    -- so it replays in its order
+    -- then it replays in its order
     → Replays s first budget t cs (order_of t cs budget e) e
 
 -- The same for a record with its program: if its order is the right one, a check agrees with it.

@@ -43,7 +43,7 @@ module _ {A B : Type 0} (s : Strands A) (t : Strands B) where
   abbrev pub SameMachines : Type 0
   SameMachines = (first : List ℤ) (ps : List (List Turn)) → length first ≤ s.elements → BothOrNeither AreTheSame (after_picks s (initial s first) ps) (after_picks t (initial t first) ps)
 
-  -- Under the same picks, both machines come to the same end.
+  -- Under the same picks, both machines reach the same end.
   abbrev pub SameEnds : Type 0
   SameEnds = (first : List ℤ) (picks : Picks) → length first ≤ s.elements → serial_end s first picks ≡ serial_end t first picks
 

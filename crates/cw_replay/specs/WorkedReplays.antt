@@ -21,7 +21,7 @@ abbrev pub ReplaysInOrder : {A : Type 0} → Strands A → (first : List ℤ) �
 ReplaysInOrder s first budget t cs e = Replays s first budget t cs (order_of t cs budget e) e
 
 pub record WorkedReplays : Type 0 where
-  -- two blocks that write one cell, of which the second was refused once
+  -- two blocks that write one cell; the second was refused once
   pub finished : ReplaysInOrder writers (pos 0 ∷ []) 2 two_blocks (refused_write ∷ []) (Finished (pos 2 ∷ []) [])
   -- a fault in a block that a sibling strand was about to roll back
   pub fault : ReplaysInOrder (scripted divides) (pos 0 ∷ pos 0 ∷ []) 2 (divided (pending 5 4) (pos 0)) (refused_in_block ∷ []) (Fault 10 Zero)

@@ -52,7 +52,7 @@ pub fn worked_replays()
     ensures { WorkedReplays }
 {}
 
-/// Law: a conflict comes only of strands that run at the same time.
+/// Law: only strands that run at the same time have conflicts.
 pub fn conflicts_need_forks()
     ensures { ConflictsNeedForks }
 {}
@@ -63,7 +63,7 @@ pub fn attempts_are_recorded()
 {}
 
 /// Law: let two laws of strands be deep and want the same, and let the first memory have no more elements than the cells have.
-/// Under the same picks, the machine with one memory does the same over both, and comes to the same end.
+/// Under the same picks, the machine with one memory does the same over both, and reaches the same end.
 pub fn same_wants_same_machine<A, B>()
     ensures machines { (s : Strands A) (t : Strands B) → IsDeep s → IsDeep t → WantTheSame s t → SameMachines s t }
     ensures ends { (s : Strands A) (t : Strands B) → IsDeep s → IsDeep t → WantTheSame s t → SameEnds s t }

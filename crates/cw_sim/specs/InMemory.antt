@@ -60,7 +60,7 @@ pub record StandsFor (c : Driver) (z : Seen) : Type 0 where
   -- for each pending block, what its strand needs to go back to the begin is kept
   pub saved : (b : ℕ) → is_pending (tree z.m) b ≡ true → (kept : Kept) × (thing_at c.saved b ≡ Some kept) × IsSavedOf z.job.program kept (z.m.saved b)
 
--- it now represents simulation m of the same job, and the bodies are somewhere inside their blocks
+-- the driver now represents simulation m of the same job, and the bodies are somewhere inside their blocks
 abbrev pub Comes : Driver → Seen → Simulation StrandState → Type 0
 Comes c z m = (there : ℕ → StrandState) × (StandsFor c (record z { m = m; there = there }) × HasInside (law_of z) m there)
 
@@ -192,6 +192,6 @@ opened job workers =
     let start = (strands_of_job job).start in
     record { job = job; m = first_simulation (first_memory job.program.cells) job.limits.strands job.limits.aborts workers start; there = λ x. start }
 
--- it represents what the moves of `workers` workers lead to
+-- the driver represents what the moves of `workers` workers lead to
 abbrev pub Ends : Driver → Job → (workers : ℕ) → Schedule → Type 0
 Ends c job workers schedule = (there : ℕ → StrandState) × StandsFor c (record { job = job; m = simulation_of job workers schedule; there = there })

@@ -69,7 +69,7 @@ module _ {A : Type 0} where
     goes_to_right w f false m = with_run w (Some (right_node f)) (takes_back w f m)
     goes_to_right w f true m = joins w f (does (event.Finish (right_node f) true) (takes_back w f m))
 
-    -- one strand of fork f has finished: they join if the other one has, too; otherwise worker w is idle
+    -- one strand of fork f has finished: they join if the other strand has, too; otherwise worker w is idle
     abbrev pub joins_or_idles : (w f : ℕ) → (both : Bool) → Simulation A → Simulation A
     joins_or_idles w f false m = with_run w None m
     joins_or_idles w f true m = joins w f m
@@ -116,7 +116,7 @@ module _ {A : Type 0} where
     abbrev pub begins : ℕ → Simulation A → Simulation A
     begins x m = answers x Nothing (record (does (event.Begin x) m) { saved = changed_at (length (tree m)) (m.at x) m.saved })
 
-    -- The block is given up. The strand is told what to put back. It wants that next, each cell by a write of its own, and then the
+    -- The block is given up. The strand learns what to put back. It wants that next, each cell by a write of its own, and then the
     -- block's end.
     abbrev pub gives_up : ℕ → Simulation A → Simulation A
     gives_up x m = answers x (Back (puts_back m.core.machine x (next m.core))) (does (event.Cancel x) m)

@@ -162,7 +162,7 @@ faulty =
 abbrev pub Faulty : Type 0
 Faulty = seen faulty ≡ halted (Fault 9 Zero) (pos 1 ∷ pos 0 ∷ []) 6 (record { cell = 0; last = 3; asker = 10; block = 2; victim = 4; attempt = 1; chain = 3 ∷ [] } ∷ [])
 
--- ## A block's output comes where the block ends
+-- ## A block's output comes at the end of the block
 
 abbrev pub shows : Simulation (Standing coded.State)
 shows = ran (codes "cell c; fn main() { spawn { atomic { out 1; c = 1; } } out 2; }") 2 (0 ∷ 1 ∷ 0 ∷ 0 ∷ 1 ∷ []) wide

@@ -175,7 +175,7 @@ impl<'a> Driver<'a> {
         Ok(())
     }
 
-    /// Joins `fork`, of which one strand has just finished, if the other one has finished, too. Otherwise worker `w` is idle.
+    /// Joins `fork`, one strand of which has just finished, if its other strand has finished, too. Otherwise worker `w` is idle.
     fn joins_or_idles(&mut self, w: u32, fork: u32) -> Result<(), OutOfMemory>
         requires { (z : Seen) × MayMeet self.old w fork z }
         ensures { OnOk result ((z : Seen) → MayMeet self.old w fork z → Comes self.new z (joins_or_idles (law_of z) w fork (has_finished z.m.core.machine (left_node fork) && has_finished z.m.core.machine (right_node fork)) z.m)) }

@@ -49,8 +49,8 @@ pub record IsCellInMemory (now : ℤ) (es : List Entry) (cleaned : ℕ) : Type 0
 
 -- ## In a tree
 
--- An access with a stamp and an answer goes with every tree. If the old entries are those of the cell's accesses, and the newest of
--- these does not conflict with an access at place p, then the new entries are those of the accesses with the new one at p.
+-- An access with a stamp and an answer goes with every tree. If the old entries are those of the cell's accesses, and the newest
+-- access does not conflict with one at place p, then the new entries are those of the accesses and the new one at p.
 abbrev pub GoesWithTrees : CellParts → CellParts → ℕ → Option ℤ → ℤ → Type 0
 GoesWithTrees old new stamp write answer =
     (t : List Node) (c p : ℕ) (us : List ℕ)

@@ -1,7 +1,7 @@
 -- The columns of a tier, and what a fork, a split and a merge make of them.
 -- Each strand has a column. A trace is named by the column of its head strand, and a fork by the column of its left strand, which
 -- is odd. The right strand has the next column.
--- Columns 0, 1, 2 .. are in use: column 0 from the start, each other one since the fork that made it.
+-- Columns 0, 1, 2 .. are in use: column 0 from the start, every other column since the fork that made it.
 use Rattle.std.specs.Prelude.{ℕ, zero, suc, ◌+◌, ◌-◌, ◌*◌, ◌%◌, ◌==◌, ◌&&◌, ◌||◌, Bool, false, not, nat_le, List, [], ◌∷◌, ◌++◌, map, length, filter, slice_get, slice_set, slice_index, Option, Some, None, is_some, if◌then◌else◌}
 use Rattle.cw_tree.specs.Walks.{has}
 use Rattle.cw_trace.specs.declared.tier.Trace.{Trace}

@@ -11,7 +11,7 @@ use Rattle.cw_trace.specs.Stands.{Stands, GoesOn, column}
 use Rattle.cw_trace.specs.Keeps.{Keeps}
 use Rattle.cw_trace.specs.Running.{IsOrdered, MayGoOn, IsUnstarted, IsDone, MayJoinAt}
 
--- what a fork keeps, at each place p where the strand of column `parent` may go on; word is the word of that strand's gap
+-- what a fork keeps, at each place p at which the strand of column `parent` may go on; word is the word of that strand's gap
 abbrev pub ForkKeeps : ℕ → ℕ → ColumnTable → ColumnTable → Type 0
 ForkKeeps word parent c d =
     (words : List ℕ) (t : List Node) (cuts joins : List ℕ) (is_open : ℕ → Bool) (p stamp : ℕ) → Keeps c words t cuts joins → IsTree t → ((b : ℕ) → is_pending t b ≡ true → 0 < stamp_of t b)

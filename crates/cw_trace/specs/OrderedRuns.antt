@@ -24,7 +24,7 @@ pub record Moment : Type 0 where
 abbrev pub GoesOnAt : Moment → ℕ → Type 0
 GoesOnAt s p = MayGoOn s.columns s.tree s.cuts s.is_open p
 
--- the open nodes after nodes from n on were made, of which those that pass `new` are open
+-- the open nodes after nodes from n on were made: of the new ones, those that pass `new`
 abbrev pub opens : ℕ → (ℕ → Bool) → (ℕ → Bool) → ℕ → Bool
 opens n new is_open m = if nat_lt m n then is_open m else new m
 

@@ -35,7 +35,7 @@ pub data GivesAround (told : Read → Answer → Type 0) (asker : ℕ) : Option 
   around_within : {t : ℕ} → IsWithinTrace told asker t true → GivesAround told asker (Some t) Within
   around_against : {t w : ℕ} → IsWithinTrace told asker t false → HasWord told t w → GivesAround told asker (Some t) (Against w)
 
--- the verdict, where u is the last accessor's trace
+-- the verdict; u is the last accessor's trace
 pub data Gives (told : Read → Answer → Type 0) (last : Mark) (asker : ℕ) : Verdict → Type 0 where
   -- a pending block of u itself was begun before the access
   own_within : {u w : ℕ} → told (Owner last.strand) (Number u) → HasWord told u w → IsTrue (came_before w last.stamp) → IsWithinTrace told asker u true → Gives told last asker Within

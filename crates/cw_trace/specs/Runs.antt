@@ -1,5 +1,5 @@
--- Whole runs of a tier: what can be reached from the start by forks, splits, merges, joins, leaves, begins and closes, each where
--- it is allowed.
+-- Whole runs of a tier: what can be reached from the start by forks, splits, merges, joins, leaves, begins and closes, if each is
+-- allowed when it is made.
 use Rattle.std.specs.Prelude.{◌≡◌, ℕ, ◌+◌, ◌<◌, ◌≤◌, ◌%◌, ◌&&◌, Bool, true, false, List, [], ◌∷◌, ◌++◌, length, slice_index, None}
 use Rattle.cw_tree.specs.declared.node.Node.{Node}
 use Rattle.cw_tree.specs.declared.node.Kind.TheVariants.{Strand, Block}

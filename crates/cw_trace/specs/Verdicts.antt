@@ -44,7 +44,7 @@ mark_of c t n = record { strand = column t (used c) n; stamp = stamp_of t n }
 
 -- ## What verdict v says, for each tree that the tier represents
 
--- of each access of the cell that has the mark `last`, and each strand that may go on and has the column `asker`
+-- for each access of the cell with the mark `last`, and each strand that may go on in the column `asker`
 abbrev pub TellsOfTree : ColumnTable → List ℕ → Mark → ℕ → Verdict → Type 0
 TellsOfTree c words last asker v =
     (t : List Node) (cuts joins : List ℕ) (is_open : ℕ → Bool) (cell u p : ℕ) → Keeps c words t cuts joins → IsTree t → AreStamps t → IsOrdered c t cuts joins is_open → MayGoOn c t cuts is_open p
@@ -71,7 +71,7 @@ Decides = (c : ColumnTable) (words : List ℕ) (last : Mark) (asker : ℕ) → T
 abbrev pub DecidesByReading : Type 0
 DecidesByReading = (c : ColumnTable) (words : List ℕ) (last : Mark) (asker : ℕ) → TellsByReading c words last asker (verdict c words last asker)
 
--- after every run, of each access and each strand that may go on
+-- after every run, for each access and each strand that may go on
 abbrev pub DecidesInRuns : Type 0
 DecidesInRuns =
     (c : ColumnTable) (words : List ℕ) (t : List Node) (cuts joins : List ℕ) (cell u p : ℕ) → ReachedTier c words t cuts joins → AreStamps t → Place c t cuts joins p → IsTrue (touches t cell u)
@@ -81,7 +81,7 @@ DecidesInRuns =
 abbrev pub CoversBlocks : Type 0
 CoversBlocks = (c : ColumnTable) (words : List ℕ) (block last : Mark) → TellsOfBlock c words block last (covers c block last)
 
--- so the victim is the outermost pending block above the asker's place of which the columns tell that it is not above the access
+-- so the victim is the outermost pending block above the asker's place that, by the columns, is not above the access
 abbrev pub FindsVictims : Type 0
 FindsVictims =
     (c : ColumnTable) (words : List ℕ) (t : List Node) (cuts joins : List ℕ) (cell u p : ℕ) → Stands c words t cuts joins → IsTree t → AreStamps t → IsTrue (touches t cell u)

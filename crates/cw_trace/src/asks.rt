@@ -7,7 +7,7 @@ ghost use Rattle.cw_trace.specs.Query.{Gives, Covers, verdict, covers};
 
 use crate::Columns;
 
-/// Law: if every answer told is what one tier and its gap words hold, the rules over answers give what the tier and the words give.
+/// Law: if every answer is what one tier and its gap words hold, the rules over answers give what the tier and the words give.
 pub fn told_laws<C: Columns>(_asked: &C)
     ensures verdict { (c : columns.ColumnTable) (words : List ℕ) (last : Mark) (asker : ℕ) (v : Verdict)
         → Stays (C.told _asked.now) (HoldsRead c words) → Gives (C.told _asked.now) last asker v → v ≡ verdict c words last asker }

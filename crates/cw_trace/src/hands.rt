@@ -25,8 +25,8 @@ pub fn loads_decide()
     ensures no_load { NoLoadDecides }
 {}
 
-/// Law: a query may be told of a tier and gap words at any moments, while the columns do not change. Its verdict is right of the
-/// tree at one of them.
+/// Law: the answers to a query's reads may come from different moments, while the columns do not change. The verdict is right of
+/// the tree at one of these moments.
 pub fn told_of_moments<C: Columns>(_asked: &C)
     ensures { (c : columns.ColumnTable) (words : ℕ → List ℕ) (last : Mark) (asker : ℕ) (v : Verdict)
         → IsToldOf c words (C.told _asked.now) → Gives (C.told _asked.now) last asker v → IsRightOnce c words last asker v }

@@ -42,7 +42,7 @@ pub fn tier_laws()
     ensures suspended { Suspended }
 {}
 
-/// Law: if each event of a run is allowed where it is made, the tier represents the tree.
+/// Law: if each event of a run is allowed when it is made, the tier represents the tree.
 pub fn tier_runs()
     ensures stands { EachRunStands }
     ensures goes_on { EachRunGoesOn }

@@ -82,8 +82,8 @@ fn ask_around<C: Columns, K: Ledger, L: Ledger>(
     }
 }
 
-/// Returns the verdict, by answers to reads, for the last access of a cell and an asker in column `asker`. If every answer is what
-/// one tier and its gap words hold, the verdict says of each tree that they represent what the verdict of `ask` says.
+/// Returns the verdict for the last access of a cell and an asker in column `asker`, from answers to reads. If every answer is what
+/// one tier and its gap words hold, the verdict says what `ask` says of each tree that they represent.
 pub fn ask_by<C: Columns, K: Ledger, L: Ledger>(
     columns: &mut C,
     last: Mark,
