@@ -6,8 +6,8 @@ use Rattle.cw_tree.specs.Walks.{IsNumbered}
 use Rattle.cw_tree.specs.InOrder.{renamed, in_order}
 use Rattle.cw_record.specs.Coherent.{Follows, StrandEnded, HasNoOpenFork}
 
--- The states of a tree's nodes are also states of the nodes in depth-first order, by which strands follow their program there. A
--- strand that has ended has ended there too, and a node without an open fork has none there.
+-- In depth-first order the nodes have the same states, and the tree is still what strands did. A strand that has ended has ended
+-- there, too. A node without an open fork has none there, either.
 pub record MovedStates {A : Type 0} (s : Strands A) (t : List Node) (before after reached : ℕ → A) : Type 0 where
   pub new_before : ℕ → A
   pub new_after : ℕ → A

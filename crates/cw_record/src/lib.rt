@@ -1,11 +1,8 @@
 //! Records: what a run keeps (its tree, journals, order and end), the run of one worker, and the record of a closed run.
 //! Use `depth_first` to run a program with one worker, `build` to make the record of another run, and `check` to replay a record.
-//! Contracts cite `specs/Records.antt` (the run of one worker), `Coherent` (coherent records), `Order` with `Items` and `Listed`
-//! (the order), `Replay` (one memory does what a record says), `Checking` (what a check says), `ClosedRun` and `Built` (closed runs
-//! and their records), `Moved` (what strands did, in depth-first order). `WorkedRecord`, `WorkedEnds` and `WorkedClosed` are small
-//! examples, with the strands of `Scripts`.
-//! Private contracts cite `Levels` (how items are found), `Walked` (what passes over a tree find), `Plain` (trees for which one
-//! pass is enough), `Replaying` (a check step by step), `Drawn` (what each step draws) and `OneWorker` (what one worker holds).
+//! Contracts cite `specs/Records.antt` (the run of one worker), `Coherent` (coherent records), `Order` (the order), `Replay` (one
+//! memory does what a record says), `Checking` (what a check says), `ClosedRun` and `Built` (closed runs and their records) and
+//! `Moved` (what strands did, in depth-first order). `WorkedRecord`, `WorkedEnds` and `WorkedClosed` are small examples.
 #![tactic(auto)]
 
 ghost use Rattle.cw_job.specs.Room.Strands.{StrandState};

@@ -1,10 +1,9 @@
 //! Laws on records: every coherent record replays, over code and over the syntax of its source. Others say what a record tells of
 //! refusals. No code here runs.
 //! Use them to conclude, from the coherence of a record, that one memory does what its run did.
-//! Contracts cite `specs/RecordsReplay.antt` (the law behind every run that is not one worker's), `WorkedReplays` (small records to
-//! which it applies), `SameMachines` (two laws of strands that want the same), `OverSource` (records of compiled programs over
-//! their sources), `LeftFirst` (runs in which left strands went first), `Spawning` (sources that spawn) and `Attempts` (attempts
-//! that are recorded one by one).
+//! Contracts cite `specs/RecordsReplay.antt` (the law behind every run that is not one worker's), `WorkedReplays` (examples),
+//! `SameMachines` (two laws of strands that want the same), `OverSource` (records over sources), `LeftFirst` (runs in which left
+//! strands went first), `Spawning` (sources that spawn) and `Attempts` (attempts recorded one by one).
 #![tactic(auto)]
 
 ghost use Rattle.cw_replay.specs.Attempts.{AttemptsAreRecorded, ConflictsNeedForks};

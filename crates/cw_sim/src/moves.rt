@@ -376,7 +376,7 @@ impl<'a> Driver<'a> {
         Ok(())
     }
 
-    /// Does what `strand` wants, which worker `w` runs.
+    /// Does what `strand` wants. Worker `w` runs that strand.
     fn acts(&mut self, w: u32, strand: u32, want: Want) -> Result<(), OutOfMemory>
         requires { (z : Seen) × MayAct self.old w strand want z }
         ensures { OnOk result ((z : Seen) → MayAct self.old w strand want z → Comes self.new z (acts (law_of z) w strand want z.m)) }

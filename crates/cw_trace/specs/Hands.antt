@@ -120,29 +120,29 @@ LaterWithNode =
     (c : ColumnTable) (words : List ℕ) (t : List Node) (cuts joins : List ℕ) (is_open : ℕ → Bool) (p q number : ℕ) (x : Node) → StandsInOrder c words t cuts joins is_open → MayGoOn c t cuts is_open p → MayGoOn c t cuts is_open q → (p ≡ q → ⊥)
     → x.parent ≡ q → is_strand_kind x.kind ≡ false → is_fork_kind x.kind ≡ false → IsLater c t p number → IsLater c (t ++ x ∷ []) p number
 
--- if another strand forks, while there are columns left
+-- it stays so if another strand forks while columns are left
 abbrev pub LaterWithFork : Type 0
 LaterWithFork =
     (c : ColumnTable) (words : List ℕ) (t : List Node) (cuts joins : List ℕ) (is_open : ℕ → Bool) (p q word stamp number : ℕ) → StandsInOrder c words t cuts joins is_open → MayGoOn c t cuts is_open p → MayGoOn c t cuts is_open q → (p ≡ q → ⊥)
     → used c + 2 ≤ c.room → IsLater c t p number → IsLater (forked word (column t (used c) q) c) (t ++ fork_nodes (length t) q stamp) p number
 
--- if another strand forks, while there are none left
+-- it stays so if another strand forks while none are left
 abbrev pub LaterWithInline : Type 0
 LaterWithInline =
     (c : ColumnTable) (words : List ℕ) (t : List Node) (cuts joins : List ℕ) (is_open : ℕ → Bool) (p q stamp number : ℕ) → StandsInOrder c words t cuts joins is_open → MayGoOn c t cuts is_open p → MayGoOn c t cuts is_open q → (p ≡ q → ⊥)
     → c.room < used c + 2 → IsLater c t p number → IsLater c (t ++ fork_nodes (length t) q stamp) p number
 
--- if any block is closed
+-- it stays so if any block is closed
 abbrev pub LaterClosed : Type 0
 LaterClosed = (c : ColumnTable) (t : List Node) (p q end number : ℕ) (state : BlockState) → IsTree t → p < length t → IsLater c t p number → IsLater c (closed t q state end) p number
 
--- if any fork is split that may be
+-- it stays so if any fork is split that may be
 abbrev pub LaterSplit : Type 0
 LaterSplit =
     (c : ColumnTable) (words : List ℕ) (t : List Node) (cuts joins : List ℕ) (f p number : ℕ) → Keeps c words t cuts joins → IsTree t → f < used c → f % 2 ≡ 1 → is_trace c f ≡ false → before_split c f ≡ None → IsUnstarted t joins f → p < length t → IsLater c t p number
     → IsLater (split_at f c) t p number
 
--- and if the traces of any fork are merged: then traces become one, but the strand of p is in none of them
+-- it stays so if the traces of any fork are merged: then traces become one, but the strand of p is in none of them
 abbrev pub LaterMerged : Type 0
 LaterMerged =
     (c : ColumnTable) (words : List ℕ) (t : List Node) (cuts joins : List ℕ) (is_open : ℕ → Bool) (f p number : ℕ) → StandsInOrder c words t cuts joins is_open → MayGoOn c t cuts is_open p → f < used c → f % 2 ≡ 1 → is_trace c f ≡ true → IsDone t is_open f → IsLater c t p number

@@ -40,7 +40,7 @@ pub data Gives (told : Read → Answer → Type 0) (last : Mark) (asker : ℕ) :
   -- a pending block of u itself was begun before the access
   own_within : {u w : ℕ} → told (Owner last.strand) (Number u) → HasWord told u w → IsTrue (came_before w last.stamp) → IsWithinTrace told asker u true → Gives told last asker Within
   own_against : {u w : ℕ} → told (Owner last.strand) (Number u) → HasWord told u w → IsTrue (came_before w last.stamp) → IsWithinTrace told asker u false → Gives told last asker (Against w)
-  -- no pending block of u was
+  -- no pending block of u itself was begun before the access
   around : {u w : ℕ} {t : Option ℕ} {v : Verdict} → told (Owner last.strand) (Number u) → HasWord told u w → came_before w last.stamp ≡ false → told (Up u) (Maybe t) → GivesAround told asker t v → Gives told last asker v
 
 -- whether the last accessor's trace u lies inside trace t, in which a pending block was begun; or u is t, and the block was begun
