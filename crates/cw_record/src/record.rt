@@ -104,7 +104,7 @@ pub fn build(
     ensures end { IfOk result (λ r. r.end ≡ end_left (first_memory program.cells) limits.aborts closed spent) }
     ensures outputs { IfOk result (λ r. HasItsOutputs r) }
 
-    // if a closed run of the program's strands left this, in depth-first order, the record is coherent, and so numbered
+    // if a closed run of the program's strands left this, in depth-first order, the record is coherent
     ensures coherent { IfOk result (λ r. (m : OpenMachine) (h : Option Halt) →
         IsLeftBy (record { program = program; words = words; limits = limits }) spent m h closed → IsCoherentRun r) }
 

@@ -1,6 +1,6 @@
 -- When a tier and gap words represent a tree.
--- Nodes are numbered in the order in which they were made. The k-th fork (from 0) that got columns has the columns 2 * k + 1 and 2
--- * k + 2.
+-- Nodes are numbered in the order in which they were made.
+-- The k-th fork (from 0) that got columns has the columns 2 * k + 1 and 2 * k + 2.
 use Rattle.std.specs.Prelude.{◌≡◌, ℕ, zero, suc, ◌+◌, ◌*◌, ◌<◌, ◌≤◌, ◌==◌, ◌&&◌, ◌||◌, ◌↔◌, Bool, not, nat_lt, nat_le, IsTrue, List, length, filter, find, slice_index, Option, Some, None, is_some, if◌then◌else◌}
 use Rattle.cw_tree.specs.declared.node.Node.{Node}
 use Rattle.cw_tree.specs.Nodes.{parent_of, stamp_of, is_pending, is_fork, all_nodes, below}

@@ -68,8 +68,7 @@ pub record MainWaits : Type 0 where
   pub merged : RunsInOrder put_together
   pub goes_on : GoesOnAt put_together 0
 
--- ## The left strand begins a block and forks there. The right strand of that fork is stolen. Its left strand accesses a cell and
--- begins a block
+-- ## The left strand forks in a block; of that fork the right strand is stolen, the left one accesses a cell and begins a block
 
 abbrev pub in_block : List Node
 in_block = one_fork ++ pending 2 2 ∷ []
