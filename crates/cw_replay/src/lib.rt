@@ -15,7 +15,7 @@ ghost use Rattle.cw_replay.specs.WorkedReplays.{WorkedReplays};
 ghost use Rattle.cw_strand.specs.Pasts.{WantTheSame};
 ghost use Rattle.cw_strand.specs.Strands.{IsDeep, Strands};
 
-/// Law: if the depth of strands falls, each coherent record of them replays, however its run ended.
+/// Law: if the depth of strands falls, each coherent record of them that has its outputs replays, however its run ended.
 pub fn replays<S>()
     ensures { (s : Strands S) → IsDeep s → RecordsReplay s }
 {}
@@ -41,7 +41,7 @@ pub fn depth_first_is_one()
     ensures one { DepthFirstIsOne }
 {}
 
-/// Law: each coherent record with its program replays, and a check agrees with it.
+/// Law: a coherent record with its program, its outputs and its order replays, and a check agrees with it.
 pub fn kept_records_replay()
     ensures { KeptRecordsReplay }
 {}
