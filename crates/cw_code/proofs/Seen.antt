@@ -1,7 +1,7 @@
 -- What is kept of the places of a function, seen through a table of nestings.
 use Rattle.std.proofs.Common.{◌≡◌, ℕ, zero, suc, ◌+◌, ◌-◌, ◌<◌, ◌≤◌, ⊎_elim, Bool, true, false, List, [], ◌∷◌, ◌++◌, length, replicate, Option, Some, None, refl, sym, ap, ◌∙◌, arith, take, drop}
 use Rattle.std.specs.Prelude.{slice_set, slice_index_or, nat_le, ◌==◌, if◌then◌else◌}
-use Rattle.std.proofs.lemmas.List.{length-replicate, map-set}
+use Rattle.std.proofs.lemmas.List.{length-replicate, length-set, map-set}
 use Rattle.std.proofs.Math.ListN.{get_or-map}
 use Rattle.std.proofs.lemmas.Bool.Decides.{eqb_tells}
 use Rattle.std.proofs.Math.Seq.{take-append_seam}
@@ -91,6 +91,14 @@ give_below count f (Some q) p l ts lt below = either (nat_le q f.start)
     either : (b : Bool) → AreBelow count (if b then ts else slice_set ts (q - f.start) (offered_level p l (slice_index_or ts (q - f.start) None)))
     either true = below
     either false = below_set count ts (q - f.start) _ (offered_below count p l _ lt (below (q - f.start))) below
+
+pub length_given : (f : Func) (o : Option ℕ) (p : ℕ) (l : Level) (ts : List (Option Arrival)) → length (give_level f o p l ts) ≡ length ts
+length_given f None p l ts = refl
+length_given f (Some q) p l ts = either (nat_le q f.start)
+  where
+    either : (b : Bool) → length (if b then ts else slice_set ts (q - f.start) (offered_level p l (slice_index_or ts (q - f.start) None))) ≡ length ts
+    either true = refl
+    either false = length-set ts (q - f.start) _
 
 -- ## At first
 

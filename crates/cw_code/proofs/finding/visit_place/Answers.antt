@@ -2,8 +2,28 @@ use Rattle.std.proofs.Common.{◌≡◌, ◌+◌, ◌<◌, Some, None, length, s
 use Rattle.std.specs.Prelude.{slice_get, slice_index_or}
 use Rattle.cw_code.specs.Rules.{effect_of, next_of, target_of, onwards, passed}
 use Rattle.cw_code.specs.Nested.{AreBelow, IsBelow, level_on_arrival, situation_at}
-use Rattle.cw_code.proofs.Seen.{Leaves, below_grown, give_below, visit_seen}
+use Rattle.cw_code.proofs.Fold.{next_inside, target_inside}
+use Rattle.cw_code.proofs.Rows.{grown_twice}
+use Rattle.cw_code.proofs.Seen.{Leaves, below_grown, give_below, length_given, visit_seen}
 use Rattle.cw_code.proofs.finding.visit_place.Goals as goal
+
+pub offer-requires : goal.offer-requires
+offer-requires c =
+    let f = c.args.func.now in
+    (c.requires.inside.1, λ q is. next_inside f (f.start + c.args.n) _ q (sym c.next.ensures ∙ is))
+
+pub offer-requires-in-Some-places : goal.offer-requires-in-Some-places
+offer-requires-in-Some-places c =
+    let f = c.args.func.now in
+    (ap length c.offer.ensures ∙ (length_given f _ _ _ c.args.places.now ∙ c.requires.inside.1), λ q is. target_inside f c.in-Some.instr c.effect_at-effect.result q (sym c.target.ensures ∙ is))
+
+pub returns-in_ok-away-in-Some-places-clause-length : goal.returns-in_ok-away-in-Some-places-clause-length
+returns-in_ok-away-in-Some-places-clause-length c =
+    let f = c.args.func.now in
+    ap length c.offer-in-Some-places.ensures ∙ (length_given f _ _ _ c.offer.new.places ∙ (ap length c.offer.ensures ∙ length_given f _ _ _ c.args.places.now))
+
+pub returns-in_ok-away-in-Some-places-clause-grown : goal.returns-in_ok-away-in-Some-places-clause-grown
+returns-in_ok-away-in-Some-places-clause-grown c = grown_twice c.args.nestings.now c.ahead.new.nestings c.after.new.nestings c.ahead.ensures.grown c.after.ensures.grown
 
 pub returns-in_ok-away-in-Some-places-clause-below : goal.returns-in_ok-away-in-Some-places-clause-below
 returns-in_ok-away-in-Some-places-clause-below c =
