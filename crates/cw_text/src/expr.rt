@@ -79,12 +79,22 @@ impl<'a> Parser<'a> {
         let name = self.word_of(letters)?;
         match self.cursor.token {
             Token::Terminal(Terminal::SquareOpen) => {
-                let at = self.bracketed(Terminal::SquareClose)?;
-                indexed(self.alloc, line, name, at)
+                match self.bracketed(Terminal::SquareClose) {
+                    Ok(at) => indexed(self.alloc, line, name, at),
+                    Err(fault) => {
+                        drop(name);
+                        Err(fault)
+                    }
+                }
             }
             Token::Terminal(Terminal::ParenOpen) => {
-                let args = self.arguments()?;
-                called(line, name, args)
+                match self.arguments() {
+                    Ok(args) => called(line, name, args),
+                    Err(fault) => {
+                        drop(name);
+                        Err(fault)
+                    }
+                }
             }
             _ => Ok(Measured {
                 expr: Expr::Name(name),
@@ -107,9 +117,16 @@ impl<'a> Parser<'a> {
     {
         self.enter()?;
         let args = self.argument_list()?;
-        self.expect(Terminal::ParenClose)?;
-        self.depth -= 1;
-        Ok(args)
+        match self.expect(Terminal::ParenClose) {
+            Ok(_) => {
+                self.depth -= 1;
+                Ok(args)
+            }
+            Err(fault) => {
+                drop(args);
+                Err(fault)
+            }
+        }
     }
 
     /// Reads expressions with commas between them, or none.
@@ -123,18 +140,39 @@ impl<'a> Parser<'a> {
             GoesOn result (read (args ∷ k) (some_terms none ∷ vs) (ahead self.old))
             (λ a. read k (some_terms (terms_of a.list.items) ∷ vs)) (ahead self.new) }
     {
-        let mut list = Vec::new(self.alloc);
         if self.has_no_argument() {
-            return Ok(Arguments { list, height: 0 });
+            return Ok(Arguments {
+                list: Vec::new(self.alloc),
+                height: 0,
+            });
         }
         let first = self.expr()?;
         let mut height = first.height;
-        list.push(first.expr)?;
+        let mut list = Vec::new(self.alloc);
+        match list.push(first.expr) {
+            Ok(_) => {}
+            Err(fault) => {
+                drop(list);
+                return Err(TextRefusal::from(fault));
+            }
+        }
         while let Token::Terminal(Terminal::Comma) = self.cursor.token {
             self.cursor.advance();
-            let next = self.expr()?;
+            let next = match self.expr() {
+                Ok(next) => next,
+                Err(fault) => {
+                    drop(list);
+                    return Err(fault);
+                }
+            };
             height = height.max(next.height);
-            list.push(next.expr)?;
+            match list.push(next.expr) {
+                Ok(_) => {}
+                Err(fault) => {
+                    drop(list);
+                    return Err(TextRefusal::from(fault));
+                }
+            }
         }
         Ok(Arguments { list, height })
     }
@@ -171,12 +209,11 @@ impl<'a> Parser<'a> {
             drop(of);
             return Err(refusal(TextKind::TooDeep, line));
         }
+        let height = of.height + 1;
+        let of = boxed(self.alloc, of.expr)?;
         Ok(Measured {
-            height: of.height + 1,
-            expr: Expr::Unary {
-                op,
-                of: Box::new(self.alloc, of.expr)?,
-            },
+            height,
+            expr: Expr::Unary { op, of },
         })
     }
 
@@ -221,8 +258,13 @@ impl<'a> Parser<'a> {
             Some(op) => {
                 let line = self.cursor.line;
                 self.cursor.advance();
-                let right = self.sum()?;
-                joined(self.alloc, op, line, left, right)
+                match self.sum() {
+                    Ok(right) => joined(self.alloc, op, line, left, right),
+                    Err(fault) => {
+                        drop(left);
+                        Err(fault)
+                    }
+                }
             }
             None => Ok(left),
         }
@@ -242,7 +284,13 @@ impl<'a> Parser<'a> {
         while let Some(op) = self.sum_sign() {
             let line = self.cursor.line;
             self.cursor.advance();
-            let right = self.product()?;
+            let right = match self.product() {
+                Ok(right) => right,
+                Err(fault) => {
+                    drop(left);
+                    return Err(fault);
+                }
+            };
             left = joined(self.alloc, op, line, left, right)?;
         }
         Ok(left)
@@ -262,7 +310,13 @@ impl<'a> Parser<'a> {
         while let Some(op) = self.product_sign() {
             let line = self.cursor.line;
             self.cursor.advance();
-            let right = self.operand()?;
+            let right = match self.operand() {
+                Ok(right) => right,
+                Err(fault) => {
+                    drop(left);
+                    return Err(fault);
+                }
+            };
             left = joined(self.alloc, op, line, left, right)?;
         }
         Ok(left)
@@ -315,15 +369,20 @@ fn indexed(alloc: Global, line: u32, name: Word, at: Measured) -> Result<Measure
 {
     if at.height == DEEPEST {
         drop(at);
+        drop(name);
         return Err(refusal(TextKind::TooDeep, line));
     }
-    Ok(Measured {
-        height: at.height + 1,
-        expr: Expr::At {
-            name,
-            at: Box::new(alloc, at.expr)?,
-        },
-    })
+    let height = at.height + 1;
+    match boxed(alloc, at.expr) {
+        Ok(at) => Ok(Measured {
+            height,
+            expr: Expr::At { name, at },
+        }),
+        Err(fault) => {
+            drop(name);
+            Err(TextRefusal::from(fault))
+        }
+    }
 }
 
 /// Returns a call of `name` with `args`, or `TooDeep` on line `line` if it would be too high.
@@ -335,6 +394,8 @@ fn called(line: u32, name: Word, args: Arguments) -> Result<Measured, TextRefusa
         (λ e. read k (a_term (term_of e.expr) ∷ vs)) xs }
 {
     if args.height == DEEPEST {
+        drop(args);
+        drop(name);
         return Err(refusal(TextKind::TooDeep, line));
     }
     Ok(Measured {

@@ -168,16 +168,41 @@ impl<'a> Parser<'a> {
     {
         self.cursor.advance();
         let Word { name, line } = self.word()?;
-        self.expect(Terminal::ParenOpen)?;
-        let params = self.params()?;
-        self.expect(Terminal::ParenClose)?;
-        let body = self.block()?;
-        Ok(Item::Func {
-            name,
-            line,
-            params,
-            body,
-        })
+        match self.expect(Terminal::ParenOpen) {
+            Ok(_) => {}
+            Err(fault) => {
+                drop(name);
+                return Err(fault);
+            }
+        }
+        let params = match self.params() {
+            Ok(params) => params,
+            Err(fault) => {
+                drop(name);
+                return Err(fault);
+            }
+        };
+        match self.expect(Terminal::ParenClose) {
+            Ok(_) => {}
+            Err(fault) => {
+                drop(params);
+                drop(name);
+                return Err(fault);
+            }
+        }
+        match self.block() {
+            Ok(body) => Ok(Item::Func {
+                name,
+                line,
+                params,
+                body,
+            }),
+            Err(fault) => {
+                drop(params);
+                drop(name);
+                Err(fault)
+            }
+        }
     }
 
     /// Reads names with commas between them, or none.

@@ -73,8 +73,13 @@ impl<'a> Parser<'a> {
     {
         self.cursor.advance();
         let name = self.word()?;
-        let value = self.assigned_value()?;
-        Ok(Stmt::Let { name, value })
+        match self.assigned_value() {
+            Ok(value) => Ok(Stmt::Let { name, value }),
+            Err(fault) => {
+                drop(name);
+                Err(fault)
+            }
+        }
     }
 
     /// Reads an output. Its keyword is next.
@@ -109,9 +114,21 @@ impl<'a> Parser<'a> {
     {
         self.cursor.advance();
         let test = self.expr()?.expr;
-        let then = self.block()?;
-        let other = self.otherwise()?;
-        Ok(Stmt::If { test, then, other })
+        let then = match self.block() {
+            Ok(then) => then,
+            Err(fault) => {
+                drop(test);
+                return Err(fault);
+            }
+        };
+        match self.otherwise() {
+            Ok(other) => Ok(Stmt::If { test, then, other }),
+            Err(fault) => {
+                drop(then);
+                drop(test);
+                Err(fault)
+            }
+        }
     }
 
     /// Reads the `else` part of a choice: a block behind `else`, or nothing.
@@ -227,8 +244,13 @@ impl<'a> Parser<'a> {
         let line = self.cursor.line;
         self.cursor.advance();
         let value = self.expr()?.expr;
-        self.expect(Terminal::Semicolon)?;
-        Ok(Stmt::Return { line, value })
+        match self.expect(Terminal::Semicolon) {
+            Ok(_) => Ok(Stmt::Return { line, value }),
+            Err(fault) => {
+                drop(value);
+                Err(fault)
+            }
+        }
     }
 
     /// Reads an assignment or a call. Its name is next.
@@ -245,25 +267,52 @@ impl<'a> Parser<'a> {
         let name = self.word_of(letters)?;
         match self.cursor.token {
             Token::Terminal(Terminal::Assign) => {
-                let value = self.assigned_value()?;
-                Ok(Stmt::Assign { name, value })
+                match self.assigned_value() {
+                    Ok(value) => Ok(Stmt::Assign { name, value }),
+                    Err(fault) => {
+                        drop(name);
+                        Err(fault)
+                    }
+                }
             }
             Token::Terminal(Terminal::SquareOpen) => {
-                let at = self.bracketed(Terminal::SquareClose)?.expr;
+                let at = match self.bracketed(Terminal::SquareClose) {
+                    Ok(at) => at.expr,
+                    Err(fault) => {
+                        drop(name);
+                        return Err(fault);
+                    }
+                };
                 match self.assigned_value() {
                     Ok(value) => Ok(Stmt::AssignAt { name, at, value }),
                     Err(fault) => {
                         drop(at);
+                        drop(name);
                         Err(fault)
                     }
                 }
             }
             Token::Terminal(Terminal::ParenOpen) => {
-                let args = self.arguments()?.list;
-                self.expect(Terminal::Semicolon)?;
-                Ok(Stmt::Call { name, args })
+                let args = match self.arguments() {
+                    Ok(args) => args.list,
+                    Err(fault) => {
+                        drop(name);
+                        return Err(fault);
+                    }
+                };
+                match self.expect(Terminal::Semicolon) {
+                    Ok(_) => Ok(Stmt::Call { name, args }),
+                    Err(fault) => {
+                        drop(args);
+                        drop(name);
+                        Err(fault)
+                    }
+                }
             }
-            _ => Err(self.unexpected()),
+            _ => {
+                drop(name);
+                Err(self.unexpected())
+            }
         }
     }
 
@@ -276,8 +325,13 @@ impl<'a> Parser<'a> {
             (λ e. push (a_term (term_of e))) (ahead self.old) (ahead self.new) }
     {
         self.expect(Terminal::Assign)?;
-        let value = self.expr()?;
-        self.expect(Terminal::Semicolon)?;
-        Ok(value.expr)
+        let value = self.expr()?.expr;
+        match self.expect(Terminal::Semicolon) {
+            Ok(_) => Ok(value),
+            Err(fault) => {
+                drop(value);
+                Err(fault)
+            }
+        }
     }
 }

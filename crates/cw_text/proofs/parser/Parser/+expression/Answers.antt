@@ -7,8 +7,8 @@ pub operand-returns-in-Some-clause-read : goal.operand-returns-in-Some-clause-re
 operand-returns-in-Some-clause-read t c = λ k vs h.
     goes_on _ _ _ _ _ (grind (arith, steps)) (c.prefixed.ensures.read k vs h)
 
-pub expr-returns-in_ok-right-in-Some-clause-read : goal.expr-returns-in_ok-right-in-Some-clause-read
-expr-returns-in_ok-right-in-Some-clause-read t c = λ k vs h.
+pub expr-returns-in-Ok-clause-read : goal.expr-returns-in-Ok-clause-read
+expr-returns-in-Ok-clause-read t c = λ k vs h.
     goes_on _ _ _ _ _ (grind (arith, steps)) (c.joined.ensures k vs _)
 
 pub product-returns-in_err-left-2-clause-read : goal.product-returns-in_err-left-2-clause-read
