@@ -53,6 +53,17 @@ impl Model for Tier {
     ghost invariant = { IsTierInMemory };
 }
 
+/// Returns a list with room for `places` items that holds `first`.
+fn begun<T: Copy>(alloc: Global, places: usize, first: T) -> Result<Vec<T>, OutOfMemory>
+    requires { 0 < places }
+    ensures items { IfOk result (λ list. list.items ≡ first ∷ []) }
+    ensures capacity { IfOk result (λ list. places ≤ vec_capacity list) }
+{
+    let mut list = Vec::with_capacity(alloc, places)?;
+    put(&mut list, first);
+    Ok(list)
+}
+
 /// Appends `item` twice.
 fn put_pair<T: Copy>(list: &mut Vec<T>, item: T)
     requires { vec_len list.old + 2 ≤ vec_capacity list.old }
@@ -167,20 +178,16 @@ impl Tier {
             return Err(OutOfMemory);
         }
         let places = m as usize;
-        let mut owners = Vec::with_capacity(alloc, places)?;
-        let mut gaps = Vec::with_capacity(alloc, places)?;
-        let mut parents = Vec::with_capacity(alloc, places)?;
-        let mut traces = Vec::with_capacity(alloc, places)?;
-        let mut outers = Vec::with_capacity(alloc, places)?;
-        owners.push(0)?;
-        gaps.push(0)?;
-        parents.push(0)?;
-        traces.push(Some(Trace {
+        let root = Trace {
             head: 0,
             lead: Some(0),
             up: None,
-        }))?;
-        outers.push(None)?;
+        };
+        let owners = begun(alloc, places, 0)?;
+        let gaps = begun(alloc, places, 0)?;
+        let parents = begun(alloc, places, 0)?;
+        let traces = begun(alloc, places, Some(root))?;
+        let outers = begun(alloc, places, None)?;
         let mut brackets = Brackets::with_room(alloc, 2 * m)?;
         brackets.insert(None, 0);
         brackets.insert(Some(0), 1);

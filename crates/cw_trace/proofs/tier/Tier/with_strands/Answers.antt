@@ -1,4 +1,4 @@
-use Rattle.std.proofs.Common.{◌≡◌, ℕ, List, Option, Some, None, [], ◌∷◌, sym, ap, ◌∙◌, subst, rules}
+use Rattle.std.proofs.Common.{◌≡◌, ℕ, List, Option, Some, None, [], ◌∷◌, length, sym, ap, ◌∙◌, subst, arith, rules}
 use Rattle.cw_trace.specs.declared.tier.Trace.{Trace}
 use Rattle.cw_trace.specs.Columns.{ColumnTable, first_tier}
 use Rattle.cw_trace.specs.Tier.{AreSound}
@@ -17,18 +17,25 @@ sound c owners gaps parents traces brackets outers =
     subst AreSound (sym e) (sound_first c.room)
 
 pub invariant_of-result : goal.invariant_of-result
-invariant_of-result c = record {
-  few = search rules;
-  fits = search rules;
-  gaps = search rules;
-  parents = search rules;
-  traces = search rules;
-  outers = search rules;
-  owners_room = search rules;
-  gaps_room = search rules;
-  parents_room = search rules;
-  traces_room = search rules;
-  outers_room = search rules;
-  brackets_room = search rules;
-  sound = sound _ (search rules) (search rules) (search rules) (search rules) (search rules) (search rules);
-}
+invariant_of-result c =
+    let owners = c.in_ok-owners.ensures in
+    let gaps = c.in_ok-gaps.ensures in
+    let parents = c.in_ok-parents.ensures in
+    let traces = c.in_ok-traces.ensures in
+    let outers = c.in_ok-outers.ensures in
+    let one = sym (ap length owners.items) in
+    record {
+      few = search rules;
+      fits = omega (arith, ap length owners.items, c.requires);
+      gaps = ap length gaps.items ∙ one;
+      parents = ap length parents.items ∙ one;
+      traces = ap length traces.items ∙ one;
+      outers = ap length outers.items ∙ one;
+      owners_room = owners.capacity;
+      gaps_room = gaps.capacity;
+      parents_room = parents.capacity;
+      traces_room = traces.capacity;
+      outers_room = outers.capacity;
+      brackets_room = search rules;
+      sound = sound _ owners.items gaps.items parents.items traces.items (search rules) outers.items;
+    }
