@@ -2,7 +2,7 @@
 ghost use Rattle.std.specs.Prelude.{◌≡◌, ◌+◌, ◌≤◌, Some};
 ghost use Rattle.cw_trace.specs.Columns as columns;
 ghost use Rattle.cw_trace.specs.Query.{Covers, Gives};
-ghost use Rattle.cw_xconf.specs.Costs.{looks_for};
+ghost use Rattle.cw_xconf.specs.Costs.{looks_for, most_looks};
 ghost use Rattle.cw_steps.specs.Views.{IsTokenOf};
 ghost use Rattle.cw_board.specs.Boards.{cells_in, columns_of};
 ghost use Rattle.cw_board.specs.Asked.{noted_since, HasRead, ToldBy};
@@ -96,7 +96,7 @@ fn ask_with<W: Asking, K: Ledger, L: Ledger>(
     ensures same_reference { reader.new.token.ghost_name ≡ reader.old.token.ghost_name }
     ensures read { HasRead reader.old.token.now reader.new.token.now }
     ensures given { Gives (ToldBy reader.old.tier.now.columns (cells_in reader.old.board.now) (noted_since reader.old.token.now reader.new.token.now)) last asker result }
-    ensures looks { looks.new ≤ looks.old + 12 }
+    ensures looks { looks.new ≤ looks.old + most_looks }
     ensures needed { looks.new ≤ looks.old + looks_for result }
     ensures compares { compares.new ≤ compares.old + 5 }
 {
@@ -136,7 +136,7 @@ impl Board {
         requires few { columns.used tier.now.columns ≤ columns_of self.now }
         ensures read { HasRead token.old token.new }
         ensures given { Gives (ToldBy tier.now.columns (cells_in self.now) (noted_since token.old token.new)) last asker result }
-        ensures looks { looks.new ≤ looks.old + 12 }
+        ensures looks { looks.new ≤ looks.old + most_looks }
         ensures needed { looks.new ≤ looks.old + looks_for result }
         ensures compares { compares.new ≤ compares.old + 5 }
     {

@@ -6,7 +6,7 @@ ghost use Rattle.cw_steps.specs.Stands.{token_of};
 ghost use Rattle.cw_steps.specs.Tracks.{track_of};
 ghost use Rattle.cw_steps.specs.Views.{IsTokenOf};
 ghost use Rattle.cw_board.specs.Boards.{cells_in, columns_of, IsOf};
-ghost use Rattle.cw_xconf.specs.Costs.{looks_for};
+ghost use Rattle.cw_xconf.specs.Costs.{looks_for, most_looks};
 ghost use Rattle.cw_board.specs.Asked.{HasRead, IsAnswered};
 ghost use Rattle.cw_board.specs.Victims.{IsBarrier};
 
@@ -151,7 +151,7 @@ impl Board {
         ensures token { token_of token.new ≡ token_of token.old }
         ensures word { (track_of token.new.track).word ≡ (track_of token.old.track).word }
         ensures answered { IsAnswered (cells_in self.now) last (track_of token.old.track).column token.new result }
-        ensures looks { looks.new ≤ looks.old + 12 }
+        ensures looks { looks.new ≤ looks.old + most_looks }
         // no read is made that decides nothing
         ensures needed { looks.new ≤ looks.old + looks_for result }
         ensures compares { compares.new ≤ compares.old + 5 }

@@ -5,6 +5,7 @@ mod Spawned
 mod Parameters
 mod CommandRuns
 mod OverSource
+mod OneMemory
 pub mod Pieces
 pub mod Statuses
 mod Checks

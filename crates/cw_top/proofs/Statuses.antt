@@ -287,14 +287,14 @@ complete (Some (Sim ws ls wk sc p)) kept status n left r w is cause ready done a
 complete (Some (Load tr wk)) kept status n left r w is cause ready done accepted no_r no_w = load_complete (Load tr wk) kept status n w is cause ready done no_w
 
 -- where a run's status is 0 the machine finished, with the memory and the outputs that were written, and behind them what follows
-at_zero : (cells : List CellInfo) (t : List Node) (e : RecordEnd) (picks : Picks) (s : SerialEnd) (more : List ℕ) (old new : Option (List ℕ)) → 0 ≡ status_of_end e → SameEnd e picks s → Appends old new (end_text cells t e ++ more) → (memory outputs : List ℤ) × (s ≡ last.Finished memory outputs) × Appends old new (finished_text cells memory outputs ++ more)
+pub at_zero : (cells : List CellInfo) (t : List Node) (e : RecordEnd) (picks : Picks) (s : SerialEnd) (more : List ℕ) (old new : Option (List ℕ)) → 0 ≡ status_of_end e → SameEnd e picks s → Appends old new (end_text cells t e ++ more) → (memory outputs : List ℤ) × (s ≡ last.Finished memory outputs) × Appends old new (finished_text cells memory outputs ++ more)
 at_zero cells t (Finished m o) picks s more old new is same written = (m, o, same, written)
 at_zero cells t (Fault x k) picks s more old new is same written = cc
 at_zero cells t (Budget x) picks s more old new is same written = cc
 at_zero cells t Moves picks s more old new is same written = cc
 
 -- the same of a load
-sum_at_zero : (count : ℕ) (cells : List CellInfo) (t : List Node) (e : RecordEnd) (picks : Picks) (s : SerialEnd) (old new : Option (List ℕ)) → 0 ≡ status_of_end e → SameEnd e picks s → Appends old new (load_text_of count cells t e) → (memory outputs : List ℤ) × (s ≡ last.Finished memory outputs) × Appends old new (summary_text count memory)
+pub sum_at_zero : (count : ℕ) (cells : List CellInfo) (t : List Node) (e : RecordEnd) (picks : Picks) (s : SerialEnd) (old new : Option (List ℕ)) → 0 ≡ status_of_end e → SameEnd e picks s → Appends old new (load_text_of count cells t e) → (memory outputs : List ℤ) × (s ≡ last.Finished memory outputs) × Appends old new (summary_text count memory)
 sum_at_zero count cells t (Finished m o) picks s old new is same written = (m, o, same, written)
 sum_at_zero count cells t (Fault x k) picks s old new is same written = cc
 sum_at_zero count cells t (Budget x) picks s old new is same written = cc

@@ -4,6 +4,7 @@ pub mod Texts
 pub mod Taken
 pub mod Runs
 pub mod OverSource
+pub mod OneMemory
 pub mod Written
 pub mod Spent
 pub mod Outcome

@@ -4,6 +4,7 @@ ghost use Rattle.cw_record.specs.Records.{IsReplayed};
 ghost use Rattle.cw_top.specs.declared.outcome.Note.{Note};
 ghost use Rattle.cw_top.specs.declared.outcome.Note.TheVariants.{Nothing};
 ghost use Rattle.cw_top.specs.Outcome.{FailsToRead, HasCause, IsMisused, IsRefusedWith, IsStatus, IsSurelyMisused, IsSurelyRefused, MayBeMisusedWith, MayEndWith};
+ghost use Rattle.cw_top.specs.OneMemory.{IsOneMemory};
 ghost use Rattle.cw_top.specs.OverSource.{IsRunOfSource};
 ghost use Rattle.cw_top.specs.Runs.{HasSeveralThreads, HasSeveralWorkers, IsDoneAs, IsDoneBy, IsReady, IsRunOf};
 ghost use Rattle.cw_top.specs.Spent.{HasSpentMoves, IsSpentBy, IsSpentOn};
@@ -164,6 +165,10 @@ pub fn cwstm<R: Threads + Wait + Sync, S: Source, K: Sink, G: Gate>(
 
     // With status 0 the text of what one memory comes to was written.
     ensures finished { result.status ≡ 0 → IsSomeAnd result.kept (λ r. WritesEndOfOneMemory (command_in words.now) r (K.written sink.old) (K.written sink.new)) }
+
+    // The same without a word of records: there is an order of picks under which one memory, running the strands of the syntax tree that the
+    // bytes spell, ends finished, and what was written is the text of its outputs and its cells. No atomic block is interrupted in it.
+    ensures one_memory { result.status ≡ 0 → IsOneMemory (command_in words.now) (S.left source.old) (K.written sink.old) (K.written sink.new) }
 
     // With status 7 a strand spent its budget, and one memory comes to where it stands. In a simulation each of its attempts is
     // kept.

@@ -12,3 +12,7 @@ looks_around (Against w) = 7
 -- the most looks in all: before those, the last accessor's trace, its lead, the word of that and the trace around
 abbrev pub looks_for : Verdict → ℕ
 looks_for v = 4 + looks_around v
+
+-- the most looks of any verdict
+abbrev pub most_looks : ℕ
+most_looks = 11

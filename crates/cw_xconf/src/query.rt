@@ -4,7 +4,7 @@ ghost use Rattle.cw_trace.specs.Told.{HoldsRead, Stays};
 ghost use Rattle.cw_trace.specs.Query as rules;
 ghost use Rattle.cw_trace.specs.Query.{HasWord, IsWithinTrace, GivesAround, Gives, Covers};
 ghost use Rattle.cw_trace.specs.Verdicts.{TellsOfTree, TellsByReading, TellsOfBlock};
-ghost use Rattle.cw_xconf.specs.Costs.{looks_around, looks_for};
+ghost use Rattle.cw_xconf.specs.Costs.{looks_around, looks_for, most_looks};
 
 use crate::steps::{came_before, is_less};
 use crate::{Held, Verdict};
@@ -97,7 +97,7 @@ pub fn ask_by<C: Columns, K: Ledger, L: Ledger>(
     ensures tells { (c : traces.ColumnTable) (words : List ℕ) → Stays (C.told columns.new) (HoldsRead c words)
         → TellsOfTree c words last asker result }
     ensures kept { Stays (C.told columns.old) (C.told columns.new) }
-    ensures looks { looks.new ≤ looks.old + 12 }
+    ensures looks { looks.new ≤ looks.old + most_looks }
     // no read is made that decides nothing
     ensures needed { looks.new ≤ looks.old + looks_for result }
     ensures compares { compares.new ≤ compares.old + 5 }
@@ -156,7 +156,7 @@ pub fn ask<L: Ledger, K: Ledger>(
     ensures verdict { result ≡ rules.verdict tier.now.columns gaps.now.words.items last asker }
     ensures tells { TellsOfTree tier.now.columns gaps.now.words.items last asker result }
     ensures by_reading { TellsByReading tier.now.columns gaps.now.words.items last asker result }
-    ensures looks { looks.new ≤ looks.old + 12 }
+    ensures looks { looks.new ≤ looks.old + most_looks }
     // no read is made that decides nothing
     ensures needed { looks.new ≤ looks.old + looks_for result }
     ensures compares { compares.new ≤ compares.old + 5 }

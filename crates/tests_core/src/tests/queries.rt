@@ -1,4 +1,5 @@
 ghost use Rattle.std.specs.Prelude.{◌≡◌, ◌+◌, ◌<◌, ◌≤◌, length};
+ghost use Rattle.cw_xconf.specs.Costs.{most_looks};
 
 use cw_order::Steps;
 use cw_trace::{Columns, Gaps, Tier};
@@ -76,7 +77,7 @@ fn answer<K: Ledger, L: Ledger>(
     looks: &mut Steps<K>,
     compares: &mut Steps<L>,
 ) -> Result<String, Fail>
-    ensures looks { looks.new ≤ looks.old + 12 }
+    ensures looks { looks.new ≤ looks.old + most_looks }
     ensures compares { compares.new ≤ compares.old + 5 }
 {
     Ok(match question {

@@ -3,6 +3,7 @@ use Rattle.std.proofs.Common.{map, rules, string_bytes, subst, sym}
 use Rattle.std.specs.Prelude.{IfSome}
 use Rattle.cw_top.proofs.Budgets.{spends}
 use Rattle.cw_top.proofs.Checks as checks
+use Rattle.cw_top.proofs.OneMemory.{one_memory}
 use Rattle.cw_top.proofs.OverSource.{of_source}
 use Rattle.cw_top.proofs.Pieces as pieces
 use Rattle.cw_top.proofs.Ready.{ready}
@@ -70,6 +71,12 @@ returns-clause-finished g c =
     let run = rw c.in-Ok.ensures.exact at c.answer.ensures.run in
     let written = rw c.in-Ok.ensures.exact at c.answer.ensures.written in
     statuses.finished _ _ _ _ _ _ _ c.answer.ensures.status run written
+
+pub returns-clause-one_memory : goal.returns-clause-one_memory
+returns-clause-one_memory g c =
+    let run = rw c.in-Ok.ensures.exact at c.answer.ensures.run in
+    let written = rw c.in-Ok.ensures.exact at c.answer.ensures.written in
+    one_memory _ _ _ _ _ _ _ c.answer.ensures.status run written
 
 pub returns-clause-spent : goal.returns-clause-spent
 returns-clause-spent g c =

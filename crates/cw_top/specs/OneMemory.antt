@@ -1,0 +1,53 @@
+-- What a run that finished has written, said with one memory alone. What this file cites is the grammar, the names, the meaning over the
+-- syntax, the machine with one memory and the texts: no tree of a run, no record, no order of one, no instructions.
+use Rattle.std.specs.Prelude.{◌≡◌, ℕ, ℤ, List, [], ◌++◌, Bool, true, false, Option, Some, None, Ok, IfSome}
+use Rattle.cw_io.specs.Outside.{Appends}
+use Rattle.cw_text.specs.Syntax.{Declaration, Source}
+use Rattle.cw_text.specs.Text.{program}
+use Rattle.cw_code.specs.declared.Limits.{Limits}
+use Rattle.cw_code.specs.declared.CellInfo.{CellInfo}
+use Rattle.cw_strand.specs.Names.{cells_of, first_memory}
+use Rattle.cw_strand.specs.Meaning.{strands_of_syntax}
+use Rattle.cw_tree.specs.declared.picks.Picks.{Picks}
+use Rattle.cw_serial.specs.declared.ends.SerialEnd.TheVariants.{Finished}
+use Rattle.cw_serial.specs.Machine.{serial_end}
+use Rattle.cw_report.specs.Results.{finished_text}
+use Rattle.cw_gen.specs.Load.{load_tree}
+use Rattle.cw_words.specs.declared.command.Command.{Command}
+use Rattle.cw_words.specs.declared.command.Command.TheVariants.{Run, Sim, Load}
+use Rattle.cw_words.specs.Words.{default_limits, words_of, limits_of}
+use Rattle.cw_top.specs.Refusals.{newest_language}
+use Rattle.cw_top.specs.Written.{summary_text}
+
+-- There are picks under which one memory, running the strands of these declarations, ends finished with this memory and these outputs.
+pub record Finishes (words : List ℤ) (limits : Limits) (source : List Declaration) (memory outputs : List ℤ) : Type 0 where
+  pub picks : Picks
+  pub ends : serial_end (strands_of_syntax source words limits) (first_memory (cells_of source)) picks ≡ Finished memory outputs
+
+-- The result, and behind it, if a report is asked for, that report.
+abbrev pub IsResultText : (report : Bool) → (result text : List ℕ) → Type 0
+IsResultText false result text = text ≡ result
+IsResultText true result text = (behind : List ℕ) × (text ≡ result ++ behind)
+
+-- The text that a command writes if its run finishes: the outputs and the cells, or for a load its summary.
+abbrev pub IsTextOfEnd : Command → List CellInfo → (memory outputs : List ℤ) (text : List ℕ) → Type 0
+IsTextOfEnd (Run words limits workers report) cells memory outputs text = IsResultText report (finished_text cells memory outputs) text
+IsTextOfEnd (Sim words limits workers schedule report) cells memory outputs text = IsResultText report (finished_text cells memory outputs) text
+IsTextOfEnd (Load transfers workers) cells memory outputs text = text ≡ summary_text transfers memory
+
+-- One memory, running these declarations, can finish so that the text of its outputs and cells is what was written.
+pub record WritesWhatOneMemoryGives (command : Command) (words : List ℤ) (limits : Limits) (source : List Declaration) (old new : Option (List ℕ)) : Type 0 where
+  pub memory : List ℤ
+  pub outputs : List ℤ
+  pub finishes : Finishes words limits source memory outputs
+  pub text : List ℕ
+  pub is_text : IsTextOfEnd command (cells_of source) memory outputs text
+  pub written : Appends old new text
+
+-- The same of what a command runs: the syntax tree that the bytes of the source spell, if the source tells its bytes; for a load the tree of
+-- its own program. Words that are no command write nothing.
+abbrev pub IsOneMemory : Option Command → (left old new : Option (List ℕ)) → Type 0
+IsOneMemory None left old new = ⊥
+IsOneMemory (Some (Load transfers workers)) left old new = WritesWhatOneMemoryGives (Load transfers workers) [] default_limits (load_tree transfers) old new
+IsOneMemory (Some c) left old new = IfSome left (λ bytes.
+    (source : Source) × (program (newest_language c) bytes ≡ Ok source) × WritesWhatOneMemoryGives c (words_of c) (limits_of c) source.items old new)
