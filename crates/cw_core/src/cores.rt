@@ -129,12 +129,16 @@ impl Core {
     {
         let mut rows = Vec::with_capacity(alloc, 1)?;
         rows.push_reserved(leaf_row(0, 0));
+        let gaps = Gaps::with_strands(alloc, limits.strands)?;
+        let cells = first_cells(alloc, init)?;
+        let tree = Linked::new(alloc)?;
+        let tier = Tier::with_strands(alloc, limits.strands)?;
         Ok(Core {
-            tree: Linked::new(alloc)?,
+            tree,
             rows,
-            cells: first_cells(alloc, init)?,
-            tier: Tier::with_strands(alloc, limits.strands)?,
-            gaps: Gaps::with_strands(alloc, limits.strands)?,
+            cells,
+            tier,
+            gaps,
             forks: Vec::new(alloc),
             clock: 0,
             conflicts: Vec::new(alloc),

@@ -67,7 +67,10 @@ impl Core {
         };
         let conflicts = match copies(alloc, self.conflicts.as_slice()) {
             Ok(conflicts) => conflicts,
-            Err(error) => return Err((self, error)),
+            Err(error) => {
+                drop(journals);
+                return Err((self, error));
+            }
         };
         let (tree, links) = self.tree.apart();
         let closed = Closed {
@@ -77,9 +80,23 @@ impl Core {
             halt: self.halt,
         };
         match closed.in_order() {
-            Ok(closed) => Ok(closed),
+            Ok(closed) => {
+                drop(links);
+                drop(self.rows);
+                drop(self.cells);
+                drop(self.tier);
+                drop(self.gaps);
+                drop(self.forks);
+                drop(self.conflicts);
+                drop(self.finished);
+                drop(self.joined);
+                drop(self.splits);
+                Ok(closed)
+            }
             Err((closed, error)) => {
                 self.tree = Linked::of_parts(closed.tree, links);
+                drop(closed.journals);
+                drop(closed.conflicts);
                 Err((self, error))
             }
         }
