@@ -16,7 +16,7 @@ hertz=$(getconf CLK_TCK)
 # name_of PID: the crate and the kind of a rattle process, by its words and its folder
 name_of() {
   local words folder crate kind=own at
-  mapfile -d '' -t words < "/proc/$1/cmdline" 2> /dev/null || return 1
+  { mapfile -d '' -t words < "/proc/$1/cmdline"; } 2> /dev/null || return 1
   folder=$(readlink "/proc/$1/cwd") || return 1
   for at in "${!words[@]}"; do
     if [ "${words[at]}" = --crate-name ]; then crate=${words[at + 1]}; fi
