@@ -8,7 +8,7 @@ use Rattle.cw_strand.specs.Running.{Standing, stand}
 use Rattle.cw_strand.specs.Coded.{State, runs, strands_of_code, joined}
 use Rattle.cw_strand.specs.Standing.{NextFrom}
 use Rattle.cw_strand.specs.Saving.{Inside, begun, goes_right, joins}
-use Rattle.tests_strand.proofs.tests.begins.to_output.Goals as goal
+use Rattle.tests_texts.proofs.strands.to_output.Goals as goal
 
 at_output : (code : Code) (l : Limits) (begin forked same ended left both last : State) → NextFrom code begin Nothing Fork forked → same ≡ forked → NextFrom code same Nothing Sync ended → both ≡ joined ended left → NextFrom code both Nothing (Out (pos 2)) last
     → Inside (strands_of_code code 0 [] l) (record { want = Begin; state = begin }) 0 0 (record { want = Out (pos 2); state = last })

@@ -8,7 +8,7 @@ use Rattle.cw_strand.specs.Running.{Standing, stand}
 use Rattle.cw_strand.specs.Coded.{State, runs, strands_of_code, joined}
 use Rattle.cw_strand.specs.Standing.{NextFrom}
 use Rattle.cw_strand.specs.Saving.{Inside, begun, goes_right, StandsLike}
-use Rattle.tests_strand.proofs.tests.begins.to_write.Goals as goal
+use Rattle.tests_texts.proofs.strands.to_write.Goals as goal
 
 at_write : (code : Code) (l : Limits) (begin forked same last : State) → NextFrom code begin Nothing Fork forked → same ≡ forked → NextFrom code same Nothing (Store 0 (pos 2)) last
     → Inside (strands_of_code code 0 [] l) (record { want = Begin; state = begin }) 1 0 (record { want = Store 0 (pos 2); state = last })

@@ -1,7 +1,7 @@
 use Rattle.std.proofs.Common.{◌∙◌, sym, subst}
 use Rattle.cw_strand.specs.declared.want.Want.TheVariants.{Begin}
 use Rattle.cw_strand.specs.Standing.{StandsWanting}
-use Rattle.tests_strand.proofs.tests.begins.twice.Goals as goal
+use Rattle.tests_texts.proofs.strands.twice.Goals as goal
 
 pub back-requires : goal.back-requires
 back-requires c = (c.in_ok-to_output.ensures.inside c.in_ok-saved.saved c.in_ok-saved.ensures).0
