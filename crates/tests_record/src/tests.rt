@@ -5,5 +5,4 @@ mod grown;
 mod machines;
 mod orders;
 mod strands;
-mod texts;
 mod trees;
