@@ -45,7 +45,7 @@ fn main(rt: HostRuntime) -> io::Result<()> {
     rt.stdin().read_to_string(&mut table)?;
     let mut shown = Vec::new(rt.alloc());
     if show_cases(rt.alloc(), table.as_str(), &mut shown).is_err() {
-        return println!(rt; "want of memory");
+        return println!(rt; "out of memory");
     }
     io::writer(&rt).write_all(shown.as_slice())
 }
