@@ -84,8 +84,15 @@ fn replies(
         moves: 0,
     };
     let mut core = Core::new(alloc, first, limits)?;
-    let mut text = all_made(alloc, &mut core, events)?;
-    let stamp = stamp_told(alloc, &core)?;
+    let told = replies_of(alloc, &mut core, events);
+    drop(core);
+    told
+}
+
+/// The same of a core.
+fn replies_of(alloc: Global, core: &mut Core, events: &[Event]) -> Result<String, Fail> {
+    let mut text = all_made(alloc, core, events)?;
+    let stamp = stamp_told(alloc, core)?;
     text.push_str(stamp.as_str())?;
     Ok(text)
 }
@@ -111,23 +118,30 @@ fn made(alloc: Global, core: &mut Core, event: Event) -> Result<String, Fail> {
         return Ok(format!(in alloc; "no ")?);
     }
     let reply = core.step(event)?;
-    told(alloc, &reply)
+    let line = told(alloc, &reply);
+    drop(reply);
+    line
 }
 
-fn read(strand: u32, cell: u32) -> Event {
-    Event::Access {
-        strand,
-        cell,
-        write: None,
-    }
+// Macros and not functions, so that the tables are constants.
+macro_rules! reads {
+    ($strand:literal, $cell:literal) => {
+        Event::Access {
+            strand: $strand,
+            cell: $cell,
+            write: None,
+        }
+    };
 }
 
-fn write(strand: u32, cell: u32, value: i64) -> Event {
-    Event::Access {
-        strand,
-        cell,
-        write: Some(value),
-    }
+macro_rules! writes {
+    ($strand:literal, $cell:literal, $value:literal) => {
+        Event::Access {
+            strand: $strand,
+            cell: $cell,
+            write: Some($value),
+        }
+    };
 }
 
 const CANCEL_0: Event = Event::Cancel { strand: 0 };
@@ -136,7 +150,7 @@ const CANCEL_3: Event = Event::Cancel { strand: 3 };
 
 #[test]
 fn replies_to_cancels(rt: HostRuntime) -> Result<(), Fail> {
-    let table: [(&[i64], &[Event], &str); 5] = [
+    let table: &[(&[i64], &[Event], &str)] = &[
         // the writes of joined strands are put back, too, and again as long as the block is pending
         (
             &[1, 2],
@@ -145,13 +159,13 @@ fn replies_to_cancels(rt: HostRuntime) -> Result<(), Fail> {
                 Event::Fork { strand: 0 },
                 Event::Split { fork: 2 },
                 Event::Begin { strand: 4 },
-                write(4, 1, 8),
+                writes!(4, 1, 8),
                 Event::Commit { strand: 4 },
                 Event::Finish {
                     strand: 4,
                     dead: false,
                 },
-                write(3, 0, 7),
+                writes!(3, 0, 7),
                 Event::Finish {
                     strand: 3,
                     dead: false,
@@ -159,7 +173,7 @@ fn replies_to_cancels(rt: HostRuntime) -> Result<(), Fail> {
                 Event::Join { fork: 2 },
                 CANCEL_0,
                 CANCEL_0,
-                write(0, 0, 1),
+                writes!(0, 0, 1),
                 CANCEL_0,
             ],
             "done fork 2 3 4 done done 8 done done 7 done done back 0=1 1=2 back 0=1 1=2 1 back 0=1 1=2 10 ",
@@ -168,18 +182,18 @@ fn replies_to_cancels(rt: HostRuntime) -> Result<(), Fail> {
         (
             &[5],
             &[
-                write(0, 0, 6),
+                writes!(0, 0, 6),
                 Event::Begin { strand: 0 },
-                read(0, 0),
-                write(0, 0, 7),
+                reads!(0, 0),
+                writes!(0, 0, 7),
                 Event::Begin { strand: 0 },
-                write(0, 0, 8),
+                writes!(0, 0, 8),
                 Event::Commit { strand: 0 },
                 CANCEL_0,
-                write(0, 0, 6),
+                writes!(0, 0, 6),
                 Event::Commit { strand: 0 },
                 Event::Begin { strand: 0 },
-                read(0, 0),
+                reads!(0, 0),
                 CANCEL_0,
             ],
             "6 done 6 7 done 8 done back 0=6 6 done done 6 back 13 ",
@@ -191,19 +205,19 @@ fn replies_to_cancels(rt: HostRuntime) -> Result<(), Fail> {
                 Event::Fork { strand: 0 },
                 Event::Split { fork: 1 },
                 Event::Begin { strand: 2 },
-                write(2, 0, 9),
+                writes!(2, 0, 9),
                 Event::Begin { strand: 3 },
                 Event::Begin { strand: 3 },
-                write(3, 1, 5),
+                writes!(3, 1, 5),
                 CANCEL_3,
-                write(3, 1, 0),
+                writes!(3, 1, 0),
                 Event::Commit { strand: 3 },
-                write(3, 0, 1),
+                writes!(3, 0, 1),
                 CANCEL_3,
                 Event::Roll { strand: 3 },
                 Event::Begin { strand: 3 },
                 CANCEL_3,
-                read(3, 1),
+                reads!(3, 1),
             ],
             "fork 1 2 3 done done 9 done done 5 back 1=0 0 done conflict 0 3 11 2 4 1 of 3 no done done back 0 13 ",
         ),
@@ -215,10 +229,10 @@ fn replies_to_cancels(rt: HostRuntime) -> Result<(), Fail> {
                 Event::Fork { strand: 0 },
                 Event::Split { fork: 2 },
                 Event::Begin { strand: 3 },
-                write(3, 0, 7),
+                writes!(3, 0, 7),
                 Event::Begin { strand: 4 },
-                write(4, 1, 8),
-                write(4, 0, 9),
+                writes!(4, 1, 8),
+                writes!(4, 0, 9),
                 Event::Roll { strand: 4 },
                 Event::Commit { strand: 3 },
                 Event::Finish {
@@ -226,7 +240,7 @@ fn replies_to_cancels(rt: HostRuntime) -> Result<(), Fail> {
                     dead: false,
                 },
                 Event::Begin { strand: 4 },
-                write(4, 0, 9),
+                writes!(4, 0, 9),
                 Event::Commit { strand: 4 },
                 Event::Finish {
                     strand: 4,
@@ -254,16 +268,16 @@ fn replies_to_cancels(rt: HostRuntime) -> Result<(), Fail> {
             "no done fork 2 3 4 no no done back done no 4 ",
         ),
     ];
-    for (first, events, wanted) in table {
+    for &(first, events, wanted) in table {
         let text = replies(rt.alloc(), first, 5, 9, events)?;
-        assert_eq!(rt; text.as_str(), wanted);
+        assert!(rt; text.as_str() == wanted);
     }
     Ok(())
 }
 
 #[test]
 fn replies_to_events(rt: HostRuntime) -> Result<(), Fail> {
-    let table: [(&[i64], u32, u32, &[Event], &str); 6] = [
+    let table: &[(&[i64], u32, u32, &[Event], &str)] = &[
         // a fork outward has to be split first; a fork without columns
         (
             &[0],
@@ -291,21 +305,21 @@ fn replies_to_events(rt: HostRuntime) -> Result<(), Fail> {
                 Event::Fork { strand: 0 },
                 Event::Split { fork: 1 },
                 Event::Begin { strand: 2 },
-                write(2, 2, 1),
+                writes!(2, 2, 1),
                 Event::Begin { strand: 3 },
                 Event::Begin { strand: 3 },
-                read(3, 0),
-                write(3, 0, 8),
+                reads!(3, 0),
+                writes!(3, 0, 8),
                 Event::Commit { strand: 3 },
-                read(3, 1),
-                write(3, 1, 9),
-                write(3, 2, 2),
+                reads!(3, 1),
+                writes!(3, 1, 9),
+                writes!(3, 2, 2),
                 Event::Commit { strand: 3 },
                 Event::Roll { strand: 3 },
-                read(2, 2),
+                reads!(2, 2),
                 Event::Begin { strand: 3 },
-                read(3, 0),
-                read(3, 1),
+                reads!(3, 0),
+                reads!(3, 1),
             ],
             "fork 1 2 3 done done 1 done done 7 8 done 8 9 conflict 2 3 12 2 4 1 of 3 no done 1 done 7 8 15 ",
         ),
@@ -320,8 +334,8 @@ fn replies_to_events(rt: HostRuntime) -> Result<(), Fail> {
                 Event::Begin { strand: 2 },
                 Event::Fork { strand: 2 },
                 Event::Split { fork: 5 },
-                write(7, 0, 1),
-                write(6, 1, 5),
+                writes!(7, 0, 1),
+                writes!(6, 1, 5),
                 Event::Finish {
                     strand: 7,
                     dead: false,
@@ -331,11 +345,11 @@ fn replies_to_events(rt: HostRuntime) -> Result<(), Fail> {
                     dead: false,
                 },
                 Event::Join { fork: 5 },
-                write(3, 0, 2),
-                write(2, 1, 1),
-                write(3, 0, 2),
+                writes!(3, 0, 2),
+                writes!(2, 1, 1),
+                writes!(3, 0, 2),
                 Event::Commit { strand: 2 },
-                write(3, 0, 2),
+                writes!(3, 0, 2),
             ],
             "fork 1 2 3 done done fork 5 6 7 done 1 5 done done done conflict 0 4 10 2 0 1 of 4 1 conflict 0 4 12 2 0 2 of 4 done 2 8 ",
         ),
@@ -349,8 +363,8 @@ fn replies_to_events(rt: HostRuntime) -> Result<(), Fail> {
                 Event::Split { fork: 1 },
                 Event::Fork { strand: 2 },
                 Event::Split { fork: 4 },
-                write(6, 0, 1),
-                write(5, 1, 5),
+                writes!(6, 0, 1),
+                writes!(5, 1, 5),
                 Event::Finish {
                     strand: 6,
                     dead: false,
@@ -361,7 +375,7 @@ fn replies_to_events(rt: HostRuntime) -> Result<(), Fail> {
                 },
                 Event::Join { fork: 4 },
                 Event::Begin { strand: 2 },
-                write(3, 0, 2),
+                writes!(3, 0, 2),
             ],
             "fork 1 2 3 done fork 4 5 6 done 1 5 done done done done 2 6 ",
         ),
@@ -374,10 +388,10 @@ fn replies_to_events(rt: HostRuntime) -> Result<(), Fail> {
                 Event::Fork { strand: 0 },
                 Event::Split { fork: 1 },
                 Event::Begin { strand: 2 },
-                write(2, 0, 1),
+                writes!(2, 0, 1),
                 Event::Begin { strand: 3 },
                 Event::Fork { strand: 3 },
-                write(8, 0, 2),
+                writes!(8, 0, 2),
                 Event::Stop {
                     halt: Halt::Budget { strand: 8 },
                 },
@@ -402,10 +416,10 @@ fn replies_to_events(rt: HostRuntime) -> Result<(), Fail> {
                 Event::Fork { strand: 0 },
                 Event::Split { fork: 1 },
                 Event::Begin { strand: 2 },
-                write(2, 0, 1),
+                writes!(2, 0, 1),
                 Event::Begin { strand: 3 },
                 Event::Fork { strand: 3 },
-                write(8, 0, 2),
+                writes!(8, 0, 2),
                 Event::Stop {
                     halt: Halt::Budget { strand: 3 },
                 },
@@ -425,10 +439,10 @@ fn replies_to_events(rt: HostRuntime) -> Result<(), Fail> {
             "fork 1 2 3 done done 1 done fork 7 8 9 conflict 0 3 10 2 4 1 of 3 no done done done no done done 7 ",
         ),
     ];
-    for (first, strands, aborts, events, wanted) in table {
+    for &(first, strands, aborts, events, wanted) in table {
         if strands > 0 {
             let text = replies(rt.alloc(), first, strands, aborts, events)?;
-            assert_eq!(rt; text.as_str(), wanted);
+            assert!(rt; text.as_str() == wanted);
         }
     }
     Ok(())
@@ -442,8 +456,8 @@ fn refused_by_a_deep_write(alloc: Global, depth: u32) -> Result<Vec<Event>, Fail
     for _ in 0..depth {
         events.push(Event::Begin { strand: 2 })?;
     }
-    events.push(write(2, 0, 1))?;
-    events.push(read(3, 0))?;
+    events.push(writes!(2, 0, 1))?;
+    events.push(reads!(3, 0))?;
     events.push(Event::Out {
         strand: 3,
         value: 0,
@@ -490,10 +504,30 @@ fn closed_after(alloc: Global, events: &[Event]) -> Result<String, Fail> {
         moves: 0,
     };
     let mut core = Core::new(alloc, &[0], limits)?;
-    let _text = all_made(alloc, &mut core, events)?;
+    match all_made(alloc, &mut core, events) {
+        Ok(text) => {
+            drop(text);
+            closed_of(alloc, core)
+        }
+        Err(fault) => {
+            drop(core);
+            Err(fault)
+        }
+    }
+}
+
+/// What is left of a core.
+fn closed_of(alloc: Global, core: Core) -> Result<String, Fail> {
     match core.close() {
-        Ok(closed) => closed_told(alloc, &closed),
-        Err((_core, error)) => Err(error.into()),
+        Ok(closed) => {
+            let told = closed_told(alloc, &closed);
+            drop(closed);
+            told
+        }
+        Err((core, error)) => {
+            drop(core);
+            Err(error.into())
+        }
     }
 }
 
@@ -503,12 +537,12 @@ fn a_core_is_closed_in_order(rt: HostRuntime) -> Result<(), Fail> {
         Event::Fork { strand: 0 },
         Event::Split { fork: 1 },
         Event::Begin { strand: 3 },
-        write(3, 0, 1),
-        write(2, 0, 2),
+        writes!(3, 0, 1),
+        writes!(2, 0, 2),
         Event::Commit { strand: 3 },
-        write(2, 0, 2),
+        writes!(2, 0, 2),
     ];
     let text = closed_after(rt.alloc(), &events)?;
-    assert_eq!(rt; text.as_str(), "0 0 1 2 2 1 5 6 asker 3 stamp 3 stamp 5 ");
+    assert!(rt; text.as_str() == "0 0 1 2 2 1 5 6 asker 3 stamp 3 stamp 5 ");
     Ok(())
 }

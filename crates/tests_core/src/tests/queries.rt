@@ -110,23 +110,45 @@ fn answers<K: Ledger, L: Ledger>(
 {
     let mut looks = Steps::<K>::new(blanks.0);
     let mut compares = Steps::<L>::new(blanks.1);
-    let mut tier = Tier::with_strands(alloc, room)?;
+    let (tier, gaps) = after(alloc, room, calls)?;
+    let text = answers_of(alloc, &tier, &gaps, questions, &mut looks, &mut compares);
+    drop(gaps);
+    drop(tier);
+    text
+}
+
+/// A tier with so much room and its gaps after these calls.
+fn after(alloc: Global, room: u32, calls: &[Call]) -> Result<(Tier, Gaps), Fail>
+    requires { 0 < room }
+{
     let mut gaps = Gaps::with_strands(alloc, room)?;
-    for call in calls {
-        make(&mut tier, &mut gaps, *call);
+    match Tier::with_strands(alloc, room) {
+        Ok(mut tier) => {
+            for call in calls {
+                make(&mut tier, &mut gaps, *call);
+            }
+            Ok((tier, gaps))
+        }
+        Err(fault) => {
+            drop(gaps);
+            Err(fault.into())
+        }
     }
+}
+
+/// What is answered on a tier and its gaps.
+fn answers_of<K: Ledger, L: Ledger>(
+    alloc: Global,
+    tier: &Tier,
+    gaps: &Gaps,
+    questions: &[(u32, u64, Question)],
+    looks: &mut Steps<K>,
+    compares: &mut Steps<L>,
+) -> Result<String, Fail> {
     let mut text = String::new(alloc);
     for &(strand, stamp, question) in questions {
         let last = Mark { strand, stamp };
-        let line = answer(
-            alloc,
-            &tier,
-            &gaps,
-            last,
-            question,
-            &mut looks,
-            &mut compares,
-        )?;
+        let line = answer(alloc, tier, gaps, last, question, looks, compares)?;
         text.push_str(line.as_str())?;
     }
     Ok(text)
@@ -134,14 +156,14 @@ fn answers<K: Ledger, L: Ledger>(
 
 #[test]
 fn verdicts_of_a_tier(rt: HostRuntime) -> Result<(), Fail> {
-    let within: &[Call] = &[
+    const WITHIN: &[Call] = &[
         Call::Fork(0),
         Call::Split(1),
         Call::Word(0, 2),
         Call::Fork(1),
         Call::Split(3),
     ];
-    let table: [(u32, &[Call], &[(u32, u64, Question)], &str); 4] = [
+    let table: &[(u32, &[Call], &[(u32, u64, Question)], &str)] = &[
         (
             5,
             &[
@@ -167,7 +189,7 @@ fn verdicts_of_a_tier(rt: HostRuntime) -> Result<(), Fail> {
         ),
         (
             5,
-            within,
+            WITHIN,
             &[
                 (3, 4, Question::Ask(2)),
                 (3, 4, Question::Ask(4)),
@@ -179,7 +201,7 @@ fn verdicts_of_a_tier(rt: HostRuntime) -> Result<(), Fail> {
         ),
         (
             5,
-            within,
+            WITHIN,
             &[
                 (3, 4, Question::Block(2, 1)),
                 (1, 3, Question::Block(2, 1)),
@@ -188,11 +210,11 @@ fn verdicts_of_a_tier(rt: HostRuntime) -> Result<(), Fail> {
             "true true false ",
         ),
     ];
-    for (room, calls, questions, wanted) in table {
+    for &(room, calls, questions, wanted) in table {
         if room > 0 {
             let blanks = (Blank::new(1), Blank::new(1));
             let text = answers::<Brand, Brand>(rt.alloc(), blanks, room, calls, questions)?;
-            assert_eq!(rt; text.as_str(), wanted);
+            assert!(rt; text.as_str() == wanted);
         }
     }
     Ok(())
@@ -260,7 +282,7 @@ fn ask_fickle<K: Ledger, L: Ledger>(blanks: (Blank, Blank), stamp: u64) -> Verdi
 fn a_verdict_whatever_is_told(rt: HostRuntime) -> Result<(), Fail> {
     for (stamp, wanted) in [(6, Verdict::Against(5)), (5, Verdict::Against(0))] {
         let blanks = (Blank::new(1), Blank::new(1));
-        assert_eq!(rt; ask_fickle::<Brand, Brand>(blanks, stamp), wanted);
+        assert!(rt; ask_fickle::<Brand, Brand>(blanks, stamp) == wanted);
     }
     Ok(())
 }
@@ -268,15 +290,15 @@ fn a_verdict_whatever_is_told(rt: HostRuntime) -> Result<(), Fail> {
 /// A tree and a tier at one moment, the column of each node, and the accesses and askers of the questions. Each asker is a refused
 /// access where the strand's next node goes.
 #[derive(Drop)]
-struct Moment {
+struct Moment<'a> {
     tree: Tree,
-    calls: Vec<Call>,
-    columns: Vec<u32>,
-    accesses: Vec<u32>,
-    askers: Vec<u32>,
+    calls: &'a [Call],
+    columns: &'a [u32],
+    accesses: &'a [u32],
+    askers: &'a [u32],
 }
 
-fn mark(moment: &Moment, n: u32) -> Mark
+fn mark(moment: &Moment<'_>, n: u32) -> Mark
     requires { n < length moment.now.tree }
 {
     let strand = if (n as usize) < moment.columns.len() {
@@ -324,7 +346,7 @@ fn is_above<K: Ledger, L: Ledger>(
 
 /// Returns the outermost pending block above the asker that is not above the access, by the columns.
 fn victim_by<K: Ledger, L: Ledger>(
-    moment: &Moment,
+    moment: &Moment<'_>,
     held: &mut Held<'_>,
     last: u32,
     asker: u32,
@@ -350,7 +372,7 @@ fn victim_by<K: Ledger, L: Ledger>(
 /// Writes the verdict on an access for an asker, or `?` if the verdict or the victim is not what the tree has.
 fn verdict_told<K: Ledger, L: Ledger>(
     alloc: Global,
-    moment: &Moment,
+    moment: &Moment<'_>,
     tier: &Tier,
     gaps: &Gaps,
     last: u32,
@@ -379,7 +401,7 @@ fn verdict_told<K: Ledger, L: Ledger>(
 /// Writes the verdicts on each access for each asker.
 fn verdicts_told<K: Ledger, L: Ledger>(
     alloc: Global,
-    moment: &Moment,
+    moment: &Moment<'_>,
     tier: &Tier,
     gaps: &Gaps,
     looks: &mut Steps<K>,
@@ -387,8 +409,8 @@ fn verdicts_told<K: Ledger, L: Ledger>(
 ) -> Result<String, Fail> {
     let size = moment.tree.nodes().len();
     let mut text = String::new(alloc);
-    for &last in &moment.accesses {
-        for &asker in &moment.askers {
+    for &last in moment.accesses {
+        for &asker in moment.askers {
             if (last as usize) < size && (asker as usize) < size {
                 let line = verdict_told(alloc, moment, tier, gaps, last, asker, looks, compares)?;
                 text.push_str(line.as_str())?;
@@ -402,145 +424,182 @@ fn verdicts_told<K: Ledger, L: Ledger>(
 fn verdicts<K: Ledger, L: Ledger>(
     alloc: Global,
     blanks: (Blank, Blank),
-    moment: &Moment,
+    moment: &Moment<'_>,
 ) -> Result<String, Fail>
     requires looks { (blanks.0.name ≡ K.name) × (blanks.0.parts ≡ K.parts) × (0 < K.parts) }
     requires compares { (blanks.1.name ≡ L.name) × (blanks.1.parts ≡ L.parts) × (0 < L.parts) }
 {
     let mut looks = Steps::<K>::new(blanks.0);
     let mut compares = Steps::<L>::new(blanks.1);
-    let mut tier = Tier::with_strands(alloc, 9)?;
-    let mut gaps = Gaps::with_strands(alloc, 9)?;
-    for call in &moment.calls {
-        make(&mut tier, &mut gaps, *call);
+    let (tier, gaps) = after(alloc, 9, moment.calls)?;
+    let text = verdicts_told(alloc, moment, &tier, &gaps, &mut looks, &mut compares);
+    drop(gaps);
+    drop(tier);
+    text
+}
+
+/// What kind of node to add.
+#[derive(Clone, Copy)]
+enum Bud {
+    Strand,
+    Fork,
+    Block,
+    Read { cell: u32, value: i64 },
+    Write { cell: u32, value: i64 },
+    Tried { cell: u32 },
+}
+
+const fn kind_of(bud: Bud) -> Kind {
+    match bud {
+        Bud::Strand => Kind::Strand,
+        Bud::Fork => Kind::Fork,
+        Bud::Block => Kind::Block,
+        Bud::Read { cell, value } => Kind::Read { cell, value },
+        Bud::Write { cell, value } => Kind::Write { cell, value },
+        Bud::Tried { cell } => Kind::Tried { cell },
     }
-    verdicts_told(alloc, moment, &tier, &gaps, &mut looks, &mut compares)
+}
+
+/// What a moment is made of: the nodes beneath the root, each with its parent and stamp, and the rest.
+#[derive(Clone, Copy)]
+struct Plan<'a> {
+    nodes: &'a [(u32, Bud, u64)],
+    calls: &'a [Call],
+    columns: &'a [u32],
+    accesses: &'a [u32],
+    askers: &'a [u32],
 }
 
 /// Makes the tree of these nodes beneath the root, each with its parent and stamp.
-fn tree_of(alloc: Global, nodes: Vec<(u32, Kind, u64)>) -> Result<Tree, Fail> {
+fn tree_of(alloc: Global, nodes: &[(u32, Bud, u64)]) -> Result<Tree, Fail> {
     let mut tree = Tree::new(alloc)?;
-    for (parent, kind, stamp) in nodes {
+    for &(parent, bud, stamp) in nodes {
         if parent as usize >= tree.nodes().len() {
             return Err("no parent".into());
         }
-        tree.add(parent, kind, stamp)?;
+        tree.add(parent, kind_of(bud), stamp)?;
     }
     Ok(tree)
 }
 
-/// A block with a stolen fork, and a block in each of its strands.
-fn stolen_in_a_block(alloc: Global) -> Result<Moment, Fail> {
-    let nodes = vec![in alloc;
-        (0, Kind::Block, 1),
-        (1, Kind::Write { cell: 0, value: 1 }, 2),
-        (1, Kind::Fork, 3),
-        (3, Kind::Strand, 0),
-        (3, Kind::Strand, 0),
-        (4, Kind::Block, 4),
-        (6, Kind::Write { cell: 0, value: 2 }, 5),
-        (5, Kind::Read { cell: 1, value: 0 }, 6),
-        (5, Kind::Block, 7),
-        (9, Kind::Write { cell: 1, value: 3 }, 8),
-        (6, Kind::Tried { cell: 1 }, 0),
-        (9, Kind::Tried { cell: 0 }, 0),
-    ]?;
+fn moment_of<'a>(alloc: Global, plan: &Plan<'a>) -> Result<Moment<'a>, Fail> {
+    let tree = tree_of(alloc, plan.nodes)?;
     Ok(Moment {
-        tree: tree_of(alloc, nodes)?,
-        calls: vec![in alloc;
-            Call::Word(0, 1),
-            Call::Fork(0),
-            Call::Split(1),
-            Call::Word(1, 4),
-            Call::Word(2, 7),
-        ]?,
-        columns: vec![in alloc; 0, 0, 0, 0, 1, 2, 1, 1, 2, 2, 2, 1, 2]?,
-        accesses: vec![in alloc; 2, 7, 8, 10]?,
-        askers: vec![in alloc; 11, 12]?,
+        tree,
+        calls: plan.calls,
+        columns: plan.columns,
+        accesses: plan.accesses,
+        askers: plan.askers,
     })
 }
+
+/// A block with a stolen fork, and a block in each of its strands.
+const STOLEN_IN_A_BLOCK: Plan<'static> = Plan {
+    nodes: &[
+        (0, Bud::Block, 1),
+        (1, Bud::Write { cell: 0, value: 1 }, 2),
+        (1, Bud::Fork, 3),
+        (3, Bud::Strand, 0),
+        (3, Bud::Strand, 0),
+        (4, Bud::Block, 4),
+        (6, Bud::Write { cell: 0, value: 2 }, 5),
+        (5, Bud::Read { cell: 1, value: 0 }, 6),
+        (5, Bud::Block, 7),
+        (9, Bud::Write { cell: 1, value: 3 }, 8),
+        (6, Bud::Tried { cell: 1 }, 0),
+        (9, Bud::Tried { cell: 0 }, 0),
+    ],
+    calls: &[
+        Call::Word(0, 1),
+        Call::Fork(0),
+        Call::Split(1),
+        Call::Word(1, 4),
+        Call::Word(2, 7),
+    ],
+    columns: &[0, 0, 0, 0, 1, 2, 1, 1, 2, 2, 2, 1, 2],
+    accesses: &[2, 7, 8, 10],
+    askers: &[11, 12],
+};
 
 /// The same tree without the block around the fork.
-fn stolen_in_no_block(alloc: Global) -> Result<Moment, Fail> {
-    let nodes = vec![in alloc;
-        (0, Kind::Fork, 1),
-        (1, Kind::Strand, 0),
-        (1, Kind::Strand, 0),
-        (2, Kind::Block, 2),
-        (4, Kind::Write { cell: 0, value: 1 }, 3),
-        (3, Kind::Read { cell: 1, value: 0 }, 4),
-        (3, Kind::Block, 5),
-        (7, Kind::Write { cell: 1, value: 2 }, 6),
-        (4, Kind::Tried { cell: 1 }, 0),
-        (7, Kind::Tried { cell: 0 }, 0),
-    ]?;
-    Ok(Moment {
-        tree: tree_of(alloc, nodes)?,
-        calls: vec![in alloc;
-            Call::Fork(0),
-            Call::Split(1),
-            Call::Word(0, 2),
-            Call::Word(2, 5),
-        ]?,
-        columns: vec![in alloc; 0, 0, 1, 2, 1, 1, 2, 2, 2, 1, 2]?,
-        accesses: vec![in alloc; 5, 6, 8]?,
-        askers: vec![in alloc; 9, 10]?,
-    })
-}
+const STOLEN_IN_NO_BLOCK: Plan<'static> = Plan {
+    nodes: &[
+        (0, Bud::Fork, 1),
+        (1, Bud::Strand, 0),
+        (1, Bud::Strand, 0),
+        (2, Bud::Block, 2),
+        (4, Bud::Write { cell: 0, value: 1 }, 3),
+        (3, Bud::Read { cell: 1, value: 0 }, 4),
+        (3, Bud::Block, 5),
+        (7, Bud::Write { cell: 1, value: 2 }, 6),
+        (4, Bud::Tried { cell: 1 }, 0),
+        (7, Bud::Tried { cell: 0 }, 0),
+    ],
+    calls: &[
+        Call::Fork(0),
+        Call::Split(1),
+        Call::Word(0, 2),
+        Call::Word(2, 5),
+    ],
+    columns: &[0, 0, 1, 2, 1, 1, 2, 2, 2, 1, 2],
+    accesses: &[5, 6, 8],
+    askers: &[9, 10],
+};
 
 /// A stolen branch that was merged again, and then a block with a stolen fork.
-fn merged_before_a_block(alloc: Global) -> Result<Moment, Fail> {
-    let nodes = vec![in alloc;
-        (0, Kind::Fork, 1),
-        (1, Kind::Strand, 0),
-        (1, Kind::Strand, 0),
-        (2, Kind::Write { cell: 0, value: 1 }, 2),
-        (3, Kind::Write { cell: 1, value: 2 }, 3),
-        (0, Kind::Block, 4),
-        (6, Kind::Fork, 5),
-        (7, Kind::Strand, 0),
-        (7, Kind::Strand, 0),
-        (8, Kind::Write { cell: 2, value: 3 }, 6),
-        (8, Kind::Tried { cell: 0 }, 0),
-        (9, Kind::Tried { cell: 2 }, 0),
-    ]?;
-    Ok(Moment {
-        tree: tree_of(alloc, nodes)?,
-        calls: vec![in alloc;
-            Call::Fork(0),
-            Call::Split(1),
-            Call::Merge(1),
-            Call::Word(0, 4),
-            Call::Fork(0),
-            Call::Split(3),
-        ]?,
-        columns: vec![in alloc; 0, 0, 1, 2, 1, 2, 0, 0, 3, 4, 3, 3, 4]?,
-        accesses: vec![in alloc; 4, 5, 10]?,
-        askers: vec![in alloc; 11, 12]?,
-    })
+const MERGED_BEFORE_A_BLOCK: Plan<'static> = Plan {
+    nodes: &[
+        (0, Bud::Fork, 1),
+        (1, Bud::Strand, 0),
+        (1, Bud::Strand, 0),
+        (2, Bud::Write { cell: 0, value: 1 }, 2),
+        (3, Bud::Write { cell: 1, value: 2 }, 3),
+        (0, Bud::Block, 4),
+        (6, Bud::Fork, 5),
+        (7, Bud::Strand, 0),
+        (7, Bud::Strand, 0),
+        (8, Bud::Write { cell: 2, value: 3 }, 6),
+        (8, Bud::Tried { cell: 0 }, 0),
+        (9, Bud::Tried { cell: 2 }, 0),
+    ],
+    calls: &[
+        Call::Fork(0),
+        Call::Split(1),
+        Call::Merge(1),
+        Call::Word(0, 4),
+        Call::Fork(0),
+        Call::Split(3),
+    ],
+    columns: &[0, 0, 1, 2, 1, 2, 0, 0, 3, 4, 3, 3, 4],
+    accesses: &[4, 5, 10],
+    askers: &[11, 12],
+};
+
+/// Writes the verdicts at the moment that a plan makes.
+fn verdicts_at(alloc: Global, plan: &Plan<'_>) -> Result<String, Fail> {
+    let moment = moment_of(alloc, plan)?;
+    let blanks = (Blank::new(1), Blank::new(1));
+    let text = verdicts::<Brand, Brand>(alloc, blanks, &moment);
+    drop(moment);
+    text
 }
 
 #[test]
 fn verdicts_and_victims_are_those_of_the_tree(rt: HostRuntime) -> Result<(), Fail> {
-    let alloc = rt.alloc();
-    let table = [
+    let table: &[(Plan<'_>, &str)] = &[
         (
-            stolen_in_a_block(alloc)?,
+            STOLEN_IN_A_BLOCK,
             "Within Within Within Against(4) Within Within Against(7) Within ",
         ),
         (
-            stolen_in_no_block(alloc)?,
+            STOLEN_IN_NO_BLOCK,
             "Within Against(2) Free Free Against(5) Within ",
         ),
-        (
-            merged_before_a_block(alloc)?,
-            "Free Free Free Free Within Within ",
-        ),
+        (MERGED_BEFORE_A_BLOCK, "Free Free Free Free Within Within "),
     ];
-    for (moment, wanted) in &table {
-        let blanks = (Blank::new(1), Blank::new(1));
-        let text = verdicts::<Brand, Brand>(alloc, blanks, moment)?;
-        assert_eq!(rt; text.as_str(), *wanted);
+    for (plan, wanted) in table {
+        let text = verdicts_at(rt.alloc(), plan)?;
+        assert!(rt; text.as_str() == *wanted);
     }
     Ok(())
 }
