@@ -1,3 +1,4 @@
+mod buds;
 mod builds;
 mod cancels;
 mod checks;
