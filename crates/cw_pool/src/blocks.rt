@@ -21,6 +21,7 @@ pub(crate) fn begins<B: SharedBoard, J: Naming>(scene: &Scene<'_, B, J>, now: &m
         return halts(scene, now);
     };
     let Ok(()) = scene.board.begin(&mut now.token) else {
+        drop(saved);
         return halts(scene, now);
     };
     match now.body.begins(saved, scene.program) {

@@ -8,6 +8,7 @@ use cw_base::OutOfMemory;
 use cw_deck::{Deck, Thief};
 use cw_log::SharedBoard;
 use std::alloc::Global;
+use std::mem;
 
 /// The most empty boxes that a worker keeps for later.
 const SPARE: usize = 64;
@@ -37,15 +38,22 @@ pub(crate) fn empty_box<B: SharedBoard, J: Naming>(
 pub(crate) fn taken_up<B: SharedBoard, J: Naming>(full: TaskBox<B, J>) -> Option<Task<B, J>> {
     let mut home = full;
     let room: &mut Room<B, J> = &mut home;
-    let now = room.task.take()?;
-    Some(Task { home, now })
+    let held = room.task.take();
+    match held {
+        Some(now) => Some(Task { home, now }),
+        None => {
+            drop(held);
+            drop(home);
+            None
+        }
+    }
 }
 
 /// Packs a task into its box.
 pub(crate) fn packed<B: SharedBoard, J: Naming>(task: Task<B, J>) -> TaskBox<B, J> {
     let Task { mut home, now } = task;
     let room: &mut Room<B, J> = &mut home;
-    room.task = Some(now);
+    drop(mem::replace(&mut room.task, Some(now)));
     home
 }
 

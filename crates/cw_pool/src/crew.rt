@@ -71,6 +71,18 @@ pub(crate) fn crew_of<B: SharedBoard, J: Naming>(
     Ok(crew)
 }
 
+/// Runs one worker until the run is over, and lets it go.
+fn works_on<B: SharedBoard, J: Naming, G: Gate, R: Threads + Wait + Sync>(
+    rt: &R,
+    common: &Common<'_, B, J, G>,
+    worker: Worker<B, J>,
+    first: Option<Task<B, J>>,
+) {
+    let mut worker = worker;
+    worker.works(rt, common, first);
+    drop(worker);
+}
+
 /// Runs all workers until the run is over, the first one on the caller's thread. A worker whose thread could not be started is
 /// missing.
 pub(crate) fn all_work<B: SharedBoard, J: Naming, G: Gate, R: Threads + Wait + Sync>(
@@ -85,17 +97,17 @@ pub(crate) fn all_work<B: SharedBoard, J: Naming, G: Gate, R: Threads + Wait + S
         move |scope| -> ()
             requires { IsSync R.row × IsSync B.row × IsSync G.row × IsSync J.row × IsSend J.row × IsSend B.Token.row }
         {
-            let mut mine = None;
-            for worker in crew {
-                if mine.is_none() {
-                    mine = Some(worker);
-                } else {
-                    let mut worker = worker;
-                    let _ = scope.spawn(move || worker.works(rt, common, None));
-                }
+            let mut others = crew.into_iter();
+            let mine = others.next();
+            for worker in others {
+                let _ = scope.spawn(move || works_on(rt, common, worker, None));
             }
-            if let Some(mut worker) = mine {
-                worker.works(rt, common, Some(first));
+            match mine {
+                Some(worker) => works_on(rt, common, worker, Some(first)),
+                None => {
+                    drop(mine);
+                    drop(first);
+                }
             }
         },
     );

@@ -69,10 +69,14 @@ pub(crate) fn behind<B: SharedBoard, J: Naming>(
             }
         },
         Mode::Dies { .. } => {
+            drop(left);
             body.gives_up();
             task_of(token, body, mode, below, base)
         }
-        Mode::Stopped => task_of(token, body, mode, below, base),
+        Mode::Stopped => {
+            drop(left);
+            task_of(token, body, mode, below, base)
+        }
         Mode::Waits => unreachable!(),
     }
 }

@@ -72,6 +72,7 @@ fn parts<B: SharedBoard, J: Naming, R: Wait>(
     let forked = match scene.board.fork(rt, token) {
         Ok(forked) => forked,
         Err((mut token, _)) => {
+            drop(left);
             scene.board.halt(&mut token, Halt::Memory);
             let now = Running {
                 token,

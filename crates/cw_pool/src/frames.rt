@@ -4,6 +4,7 @@ use crate::boxes::{Task, TaskBox, packed};
 use cw_base::OutOfMemory;
 use cw_log::SharedBoard;
 use std::alloc::Global;
+use std::mem;
 use std::sync::{Mutex, OnceLock, Wait};
 
 /// The number of frames that are made at once.
@@ -78,7 +79,7 @@ pub(crate) fn meet<B: SharedBoard, J: Naming, R: Wait>(
     match held.take() {
         Some(other) => Some((mine, other)),
         None => {
-            *held = Some(packed(mine));
+            drop(mem::replace(held, Some(packed(mine))));
             None
         }
     }

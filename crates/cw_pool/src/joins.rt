@@ -70,9 +70,11 @@ pub(crate) fn takes_back_task<B: SharedBoard, J: Naming>(
     let RightTask {
         token: mut other,
         body,
+        below: nothing,
         half: theirs,
         ..
     } = right;
+    drop(nothing);
     scene.pairs.meet(half, theirs);
     let Mode::Goes = mode else {
         let token = scene.board.join(token, other);
@@ -111,9 +113,11 @@ pub(crate) fn meets<B: SharedBoard, J: Naming, R: Wait>(
     let RightTask {
         token: other,
         body,
+        below: nothing,
         half: theirs,
         ..
     } = right;
+    drop(nothing);
     scene.pairs.meet(half, theirs);
     let token = scene.board.join(token, other);
     let token = merges(rt, scene, token, mode, fork);

@@ -80,6 +80,7 @@ impl<B: SharedBoard, J: Naming> Worker<B, J> {
                     now = self.turn(rt, common, task);
                 }
                 None => {
+                    drop(now);
                     if common.is_over() {
                         return;
                     }
@@ -92,6 +93,7 @@ impl<B: SharedBoard, J: Naming> Worker<B, J> {
                 }
             }
         }
+        drop(now);
     }
 
     /// Makes one step of a strand. Returns the task with which the worker goes on.
@@ -147,7 +149,10 @@ impl<B: SharedBoard, J: Naming> Worker<B, J> {
                 home: empty,
                 now: right,
             }),
-            None => boxes.spares(empty),
+            None => {
+                drop(waiting);
+                boxes.spares(empty);
+            }
         }
         Task { home, now }
     }
@@ -169,6 +174,7 @@ impl<B: SharedBoard, J: Naming> Worker<B, J> {
                 self.at_frame(rt, common, number, Task { home, now }, false)
             }
             Ok(After::Ended(ended)) => {
+                drop(home);
                 *common.end.lock(rt) = Some(ended);
                 common.over.store(1, Ordering::SeqCst);
                 None
@@ -184,19 +190,39 @@ impl<B: SharedBoard, J: Naming> Worker<B, J> {
         task: Task<B, J>,
     ) -> Option<Task<B, J>> {
         let boxes: &mut Boxes<B, J> = &mut self.boxes;
-        let Some(waiting) = boxes.newest() else {
-            let number = left_number(&task.now);
-            return self.at_frame(rt, common, number, task, true);
-        };
+        let newest = boxes.newest();
+        match newest {
+            Some(waiting) => self.takes_back(rt, common, task, waiting),
+            None => {
+                drop(newest);
+                let number = left_number(&task.now);
+                self.at_frame(rt, common, number, task, true)
+            }
+        }
+    }
+
+    /// The right strand of a fork, which waits here, goes on after its left one.
+    fn takes_back<G: Gate, R: Threads + Wait + Sync>(
+        &mut self,
+        rt: &R,
+        common: &Common<'_, B, J, G>,
+        task: Task<B, J>,
+        waiting: Task<B, J>,
+    ) -> Option<Task<B, J>> {
         let Task {
             home: emptied,
             now: right,
         } = waiting;
+        let boxes: &mut Boxes<B, J> = &mut self.boxes;
         boxes.spares(emptied);
         let Task { home, now } = task;
         match takes_back_task(&common.scene, now, right) {
             Ok(now) => Some(Task { home, now }),
-            Err(_) => never(rt),
+            Err(both) => {
+                drop(both);
+                drop(home);
+                never(rt)
+            }
         }
     }
 
@@ -210,13 +236,32 @@ impl<B: SharedBoard, J: Naming> Worker<B, J> {
         is_left: bool,
     ) -> Option<Task<B, J>> {
         let Some(number) = number else {
+            drop(task);
             return never(rt);
         };
         let Some(frame) = common.frame(number) else {
+            drop(task);
             return never(rt);
         };
-        let (task, other) = meet(rt, frame, task)?;
-        let Some(other) = taken_up(other) else {
+        match meet(rt, frame, task) {
+            Some((task, other)) => self.joins(rt, common, task, other, is_left),
+            None => None,
+        }
+    }
+
+    /// Both strands of a stolen fork are there.
+    fn joins<G: Gate, R: Threads + Wait + Sync>(
+        &mut self,
+        rt: &R,
+        common: &Common<'_, B, J, G>,
+        task: Task<B, J>,
+        full: TaskBox<B, J>,
+        is_left: bool,
+    ) -> Option<Task<B, J>> {
+        let other = taken_up(full);
+        let Some(other) = other else {
+            drop(other);
+            drop(task);
             return never(rt);
         };
         let Task { home, now } = task;
@@ -226,10 +271,18 @@ impl<B: SharedBoard, J: Naming> Worker<B, J> {
         } = other;
         let boxes: &mut Boxes<B, J> = &mut self.boxes;
         boxes.spares(emptied);
-        let (left, right) = if is_left { (now, then) } else { (then, now) };
-        match meets(rt, &common.scene, left, right) {
+        let met = if is_left {
+            meets(rt, &common.scene, now, then)
+        } else {
+            meets(rt, &common.scene, then, now)
+        };
+        match met {
             Ok(now) => Some(Task { home, now }),
-            Err(_) => never(rt),
+            Err(both) => {
+                drop(both);
+                drop(home);
+                never(rt)
+            }
         }
     }
 

@@ -131,6 +131,7 @@ fn work_in<'x, B: SharedBoard, J: Naming, G: Gate, R: Threads + Wait + Sync>(
     ensures whole { IsTrue result.1 → (B.of result.0).told ≡ false }
 {
     let Ok(ready) = make_ready::<B, J>(scene.alloc, workers, strands, scene.pairs, source) else {
+        drop(body);
         return never_begins(scene.board, root);
     };
     let Ready { crew, frames, home } = ready;
@@ -144,10 +145,15 @@ fn work_in<'x, B: SharedBoard, J: Naming, G: Gate, R: Threads + Wait + Sync>(
         over: AtomicU64::new(0),
     };
     all_work(rt, &common, crew, Task { home, now });
-    let Common { end, .. } = common;
-    match end.into_inner() {
+    let Common { frames, end, .. } = common;
+    drop(frames);
+    let end = end.into_inner();
+    match end {
         Some(ended) => last_look(board, ended),
-        None => never(rt),
+        None => {
+            drop(end);
+            never(rt)
+        }
     }
 }
 
