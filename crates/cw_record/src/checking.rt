@@ -46,10 +46,22 @@ pub fn check(alloc: Global, kept: &Record) -> Result<Checked, OutOfMemory>
         kept.limits,
         &kept.order,
     )?;
-    if replays(alloc, kept, &end)? {
-        return Ok(Checked::Agrees);
+    let agrees = replays(alloc, kept, &end);
+    match agrees {
+        Ok(true) => {
+            drop(end);
+            Ok(Checked::Agrees)
+        }
+        Ok(false) => {
+            let differs = difference(cells, &kept.end, &end);
+            drop(end);
+            differs
+        }
+        Err(fault) => {
+            drop(end);
+            Err(fault)
+        }
     }
-    difference(cells, &kept.end, &end)
 }
 
 /// Returns whether a record replays, given the machine's end under its order.

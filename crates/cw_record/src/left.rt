@@ -44,13 +44,26 @@ pub(crate) fn end_left(
         (memory_left (first_memory program.now.cells) closed.now.journals) (outputs_shown closed.now.tree items.now)) }
 {
     match told {
-        RecordEnd::Finished { .. } => Ok(RecordEnd::Finished {
-            memory: memory_left(alloc, program, closed.journals.as_slice())?,
-            outputs: outputs_left(alloc, &closed.tree, items)?,
-        }),
-        RecordEnd::Fault { strand, kind } => Ok(RecordEnd::Fault { strand, kind }),
-        RecordEnd::Budget { strand } => Ok(RecordEnd::Budget { strand }),
-        RecordEnd::Moves => Ok(RecordEnd::Moves),
+        RecordEnd::Finished { memory, outputs } => {
+            drop(memory);
+            drop(outputs);
+            Ok(RecordEnd::Finished {
+                memory: memory_left(alloc, program, closed.journals.as_slice())?,
+                outputs: outputs_left(alloc, &closed.tree, items)?,
+            })
+        }
+        RecordEnd::Fault { strand, kind } => {
+            drop(told);
+            Ok(RecordEnd::Fault { strand, kind })
+        }
+        RecordEnd::Budget { strand } => {
+            drop(told);
+            Ok(RecordEnd::Budget { strand })
+        }
+        RecordEnd::Moves => {
+            drop(told);
+            Ok(RecordEnd::Moves)
+        }
     }
 }
 

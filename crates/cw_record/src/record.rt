@@ -58,15 +58,31 @@ pub fn depth_first(
     ensures numbered { IfOk result (λ r. IsNumberedDepthFirst r.tree) }
     ensures blocks { IfOk result (λ r. BlocksEnded r.tree r.end) }
 {
-    let run = Worker::run(alloc, &program, words.as_slice(), limits)?;
+    let run = match Worker::run(alloc, &program, words.as_slice(), limits) {
+        Ok(run) => run,
+        Err(fault) => {
+            drop(program);
+            drop(words);
+            return Err(fault);
+        }
+    };
     let conflicts = Seq::new(alloc);
-    let order = order_of(
+    let order = match order_of(
         alloc,
         &run.drawing.tree,
         conflicts.as_slice(),
         limits.aborts,
         &run.end,
-    )?;
+    ) {
+        Ok(order) => order,
+        Err(fault) => {
+            drop(conflicts);
+            drop(run);
+            drop(program);
+            drop(words);
+            return Err(fault);
+        }
+    };
     Ok(Record {
         program,
         words,
@@ -118,9 +134,37 @@ pub fn build(
     let _ = closed.tree.nodes();
     let told = end_told(alloc, &closed, spent);
     let conflicts = closed.conflicts.as_slice();
-    let items = items(alloc, &closed.tree, conflicts, limits.aborts, &told)?;
-    let end = end_left(alloc, &program, &closed, told, items.as_slice())?;
-    let order = order_through(alloc, &closed.tree, items.as_slice(), &end)?;
+    let items = match items(alloc, &closed.tree, conflicts, limits.aborts, &told) {
+        Ok(items) => items,
+        Err(fault) => {
+            drop(told);
+            drop(program);
+            drop(words);
+            drop(closed);
+            return Err(fault);
+        }
+    };
+    let end = match end_left(alloc, &program, &closed, told, items.as_slice()) {
+        Ok(end) => end,
+        Err(fault) => {
+            drop(items);
+            drop(program);
+            drop(words);
+            drop(closed);
+            return Err(fault);
+        }
+    };
+    let order = match order_through(alloc, &closed.tree, items.as_slice(), &end) {
+        Ok(order) => order,
+        Err(fault) => {
+            drop(end);
+            drop(items);
+            drop(program);
+            drop(words);
+            drop(closed);
+            return Err(fault);
+        }
+    };
     Ok(Record {
         program,
         words,

@@ -79,8 +79,21 @@ impl<'a> Worker<'a> {
             limits,
         };
         let memory = first_memory(alloc, program.cells.as_slice())?;
-        let drawing = Drawing::begin(alloc, memory.len())?;
-        let strand = Standing::start(alloc, program, words, limits)?;
+        let drawing = match Drawing::begin(alloc, memory.len()) {
+            Ok(drawing) => drawing,
+            Err(fault) => {
+                drop(memory);
+                return Err(fault);
+            }
+        };
+        let strand = match Standing::start(alloc, program, words, limits) {
+            Ok(strand) => strand,
+            Err(fault) => {
+                drop(memory);
+                drop(drawing);
+                return Err(fault);
+            }
+        };
         Ok(Worker {
             task,
             memory,
@@ -248,7 +261,13 @@ impl<'a> Worker<'a> {
         ensures strand { OnOk result (self.new.strand ≡ right) }
         ensures branches { OnOk result (self.new.branches ≡ OnRight fork self.old.strand ∷ self.old.branches) }
     {
-        self.drawing.starts(fork)?;
+        match self.drawing.starts(fork) {
+            Ok(_) => {}
+            Err(fault) => {
+                drop(right);
+                return Err(fault);
+            }
+        }
         let left = std::mem::replace(&mut self.strand, right);
         self.branches.push(Branch::Right { fork, left })
     }
@@ -273,6 +292,9 @@ impl<'a> Worker<'a> {
         ensures drawing { result.drawing ≡ self.entry.drawing }
         ensures end { result.end ≡ ending.Finished self.entry.memory.items self.entry.outputs.items }
     {
+        drop(self.undo);
+        drop(self.strand);
+        drop(self.branches);
         Run {
             drawing: self.drawing,
             end: RecordEnd::Finished {

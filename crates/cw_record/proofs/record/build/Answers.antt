@@ -19,8 +19,8 @@ returns-clause-end c =
     let t = c.args.closed.tree in
     let cs = c.args.closed.conflicts in
     let budget = c.args.limits.aborts in
-    let all = c.as_slice.ensures.value ∙ c.in_ok-items.ensures.items ∙ ap (λ xs. items t xs budget c.end_told-told.result) c.as_slice-conflicts.ensures in
-    c.in_ok-end.ensures
+    let all = c.as_slice.ensures.value ∙ c.in-Ok.ensures.items ∙ ap (λ xs. items t xs budget c.end_told-told.result) c.as_slice-conflicts.ensures in
+    c.in-Ok-end_left.ensures
     ∙ end_is t cs budget c.args.closed.halt c.args.spent (memory_left (first_memory c.args.program.cells) c.args.closed.journals) c.end_told-told.result c.as_slice.result.now c.end_told-told.ensures all
 
 pub returns-clause-order : goal.returns-clause-order
@@ -30,9 +30,9 @@ returns-clause-order c =
     let budget = c.args.limits.aborts in
     let told = c.end_told-told.result in
     let memory = memory_left (first_memory c.args.program.cells) c.args.closed.journals in
-    let all = c.as_slice-2.ensures.value ∙ c.in_ok-items.ensures.items ∙ ap (λ xs. items t xs budget told) c.as_slice-conflicts.ensures in
-    c.in_ok-order.ensures
-    ∙ ap (λ (xs : List OrderItem). order_through t xs c.in_ok-end.end) (all ∙ same_items t cs budget told memory (outputs_shown t c.as_slice.result.now) ∙ ap (items t cs budget) (sym c.in_ok-end.ensures))
+    let all = c.as_slice-2.ensures.value ∙ c.in-Ok.ensures.items ∙ ap (λ xs. items t xs budget told) c.as_slice-conflicts.ensures in
+    c.in-Ok-order_through.ensures
+    ∙ ap (λ (xs : List OrderItem). order_through t xs c.in-Ok-end_left.end) (all ∙ same_items t cs budget told memory (outputs_shown t c.as_slice.result.now) ∙ ap (items t cs budget) (sym c.in-Ok-end_left.ensures))
 
 pub returns-clause-outputs : goal.returns-clause-outputs
 returns-clause-outputs c =
