@@ -72,7 +72,7 @@ pub(crate) fn crew_of<B: SharedBoard, J: Naming>(
 }
 
 /// Runs one worker until the run is over, and lets it go.
-fn works_on<B: SharedBoard, J: Naming, G: Gate, R: Threads + Wait + Sync>(
+fn run_worker<B: SharedBoard, J: Naming, G: Gate, R: Threads + Wait + Sync>(
     rt: &R,
     common: &Common<'_, B, J, G>,
     worker: Worker<B, J>,
@@ -100,10 +100,10 @@ pub(crate) fn all_work<B: SharedBoard, J: Naming, G: Gate, R: Threads + Wait + S
             let mut others = crew.into_iter();
             let mine = others.next();
             for worker in others {
-                let _ = scope.spawn(move || works_on(rt, common, worker, None));
+                let _ = scope.spawn(move || run_worker(rt, common, worker, None));
             }
             match mine {
-                Some(worker) => works_on(rt, common, worker, Some(first)),
+                Some(worker) => run_worker(rt, common, worker, Some(first)),
                 None => {
                     drop(mine);
                     drop(first);

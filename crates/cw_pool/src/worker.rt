@@ -192,7 +192,7 @@ impl<B: SharedBoard, J: Naming> Worker<B, J> {
         let boxes: &mut Boxes<B, J> = &mut self.boxes;
         let newest = boxes.newest();
         match newest {
-            Some(waiting) => self.takes_back(rt, common, task, waiting),
+            Some(waiting) => self.take_back_right(rt, common, task, waiting),
             None => {
                 drop(newest);
                 let number = left_number(&task.now);
@@ -201,8 +201,8 @@ impl<B: SharedBoard, J: Naming> Worker<B, J> {
         }
     }
 
-    /// The right strand of a fork, which waits here, goes on after its left one.
-    fn takes_back<G: Gate, R: Threads + Wait + Sync>(
+    /// Goes on with the right strand of a fork, which waits here, after its left one.
+    fn take_back_right<G: Gate, R: Threads + Wait + Sync>(
         &mut self,
         rt: &R,
         common: &Common<'_, B, J, G>,
@@ -244,13 +244,13 @@ impl<B: SharedBoard, J: Naming> Worker<B, J> {
             return never(rt);
         };
         match meet(rt, frame, task) {
-            Some((task, other)) => self.joins(rt, common, task, other, is_left),
+            Some((task, other)) => self.join_at_frame(rt, common, task, other, is_left),
             None => None,
         }
     }
 
-    /// Both strands of a stolen fork are there.
-    fn joins<G: Gate, R: Threads + Wait + Sync>(
+    /// Joins both strands of a stolen fork, and goes on behind it.
+    fn join_at_frame<G: Gate, R: Threads + Wait + Sync>(
         &mut self,
         rt: &R,
         common: &Common<'_, B, J, G>,
