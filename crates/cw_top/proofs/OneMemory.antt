@@ -1,5 +1,5 @@
 -- With status 0 what was written is what one memory gives that runs the syntax tree: the picks are those of the order that is kept.
-use Rattle.std.proofs.Common.{◌≡◌, ◌++◌, inl, inr, ℕ, ℤ, List, [], Bool, true, false, length, Option, Some, None, IfSome, refl, sym, ◌∙◌, subst, append_nil}
+use Rattle.std.proofs.Common.{◌≡◌, ◌++◌, inl, inr, ℕ, ℤ, List, [], Bool, true, false, length, Option, Some, None, IfSome, refl, sym, ◌∙◌, subst, append-nil}
 use Rattle.cw_io.specs.Outside.{Appends}
 use Rattle.cw_code.specs.declared.CellInfo.{CellInfo}
 use Rattle.cw_code.specs.declared.Limits.{Limits}
@@ -31,7 +31,7 @@ use Rattle.cw_top.proofs.Statuses.{at_zero, sum_at_zero}
 -- what stands behind a result is the report, if one is asked for
 behind : (report : Bool) (r : Record) (result : List ℕ) → IsResultText report result (result ++ report_if report r)
 behind true r result = (report_if true r, refl)
-behind false r result = append_nil result
+behind false r result = append-nil result
 
 -- a run whose status is 0, of these declarations
 of_declarations : (c : Command) (ds : List Declaration) (ws : List ℤ) (ls : Limits) (r : Record) (old new : Option (List ℕ)) → 0 ≡ status_of_end r.end → IsNumbered r.tree → IsRunOfDeclarations ws ls ds r → Appends old new (text_in (telling_of c) r) → WritesWhatOneMemoryGives c ws ls ds old new
@@ -66,9 +66,9 @@ of_declarations (Load transfers workers) ds ws ls r old new is tree run written 
 of_command : (c : Command) (left old new : Option (List ℕ)) (r : Record) → 0 ≡ status_of_end r.end → IsNumbered r.tree → IsRunOfSource (Some c) left r → Appends old new (text_in (telling_of c) r) → IsOneMemory (Some c) left old new
 of_command (Load transfers workers) left old new r is tree run written = of_declarations (Load transfers workers) (load_tree transfers) [] default_limits r old new is tree run written
 of_command (Run ws ls w p) None old new r is tree run written = tt
-of_command (Run ws ls w p) (Some bytes) old new r is tree (source, (spelled, run)) written = (source, spelled, of_declarations (Run ws ls w p) source.items ws ls r old new is tree run written)
+of_command (Run ws ls w p) (Some bytes) old new r is tree (source, spelled, run) written = (source, spelled, of_declarations (Run ws ls w p) source.items ws ls r old new is tree run written)
 of_command (Sim ws ls w s p) None old new r is tree run written = tt
-of_command (Sim ws ls w s p) (Some bytes) old new r is tree (source, (spelled, run)) written = (source, spelled, of_declarations (Sim ws ls w s p) source.items ws ls r old new is tree run written)
+of_command (Sim ws ls w s p) (Some bytes) old new r is tree (source, spelled, run) written = (source, spelled, of_declarations (Sim ws ls w s p) source.items ws ls r old new is tree run written)
 
 pub one_memory : (command : Option Command) (kept : Option Record) (status : ℕ) (n : Note) (left old new : Option (List ℕ)) → IsStatus kept status n → IfSome kept (IsRunOf command left) → Writes (text_owed (text_of_command command) kept status) n old new → status ≡ 0 → IsOneMemory command left old new
 one_memory command None status note.Nothing left old new is run written zero = absurd is
