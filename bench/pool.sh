@@ -267,7 +267,7 @@ if command -v valgrind > valgrind.path; then
     valgrind --tool=callgrind --callgrind-out-file=callgrind.out ./out/pool_times "$workers" 262144 1 < "$copy/5000.cw" > one.told 2> callgrind.log
     echo "$workers workers, 5000 transfers, instructions:"
     {
-      callgrind_annotate --inclusive=yes callgrind.out | grep -E 'PROGRAM TOTALS|recording::run::|Worker::works|Play::pick'
+      callgrind_annotate --inclusive=yes callgrind.out | grep -E 'PROGRAM TOTALS|recording::run::|Worker::work|Play::pick'
       callgrind_annotate callgrind.out | grep -E '^ *[0-9,]+ \(.*:' | head -16
     } 2> annotate.log | sed -e 's/ \[[^]]*\]$//' -e 's/[^ ]*\/\([^/]*\)$/\1/'
   done

@@ -26,7 +26,7 @@ use cw_tree::{Conflict, Mark};
 use std::sync::Wait;
 
 /// The victim's begin and attempt number. Without a victim: 0, and the attempt of the access itself.
-fn fallen(victim: Option<Above>, attempt: u32) -> (u64, u32)
+fn victim_and_attempt(victim: Option<Above>, attempt: u32) -> (u64, u32)
     ensures { (result.0 ≡ begin_of victim) × (result.1 ≡ attempt_refused victim attempt) }
 {
     match victim {
@@ -46,7 +46,7 @@ fn conflict_of(
 ) -> Result<Conflict, OutOfMemory>
     ensures { IfOk result (λ k. k ≡ conflict_with cell asker last barrier attempt (last_eight (stamps held.now.entries))) }
 {
-    let (victim, attempt) = fallen(barrier.victim, attempt);
+    let (victim, attempt) = victim_and_attempt(barrier.victim, attempt);
     let chain = Seq::from_vec(held.chain()?);
     Ok(Conflict {
         cell,

@@ -36,7 +36,7 @@ impl Board {
         ensures token { (stamp : ℕ) × (token_of token.new ≡ ended (token_of token.old) Committed stamp) }
         ensures word { IsHidden (track_of token.old.track) (track_of token.new.track) }
     {
-        let outermost = token.word() == token.begun();
+        let outermost = token.word() == token.begin_stamp();
         self.end(token, false);
         if outermost {
             self.hide(token);

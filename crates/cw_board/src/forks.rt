@@ -35,7 +35,7 @@ fn split_state(tier: &Tier, fork: u32) -> Option<bool>
 }
 
 /// Splits the fork in the tier, if it is there and not split. No rule of the table says yet that it is.
-fn split_in(tier: &mut Tier, fork: u32) -> Result<(), Early>
+fn split_tier(tier: &mut Tier, fork: u32) -> Result<(), Early>
     ensures used { columns.used tier.new.columns ≡ columns.used tier.old.columns }
     ensures room { tier.new.columns.room ≡ tier.old.columns.room }
     ensures ok { OnOk result (IsSplitNow fork tier.old.columns tier.new.columns) }
@@ -48,7 +48,7 @@ fn split_in(tier: &mut Tier, fork: u32) -> Result<(), Early>
 }
 
 /// Merges the fork in the tier, if it is there and split. No rule of the table says yet that it is.
-fn merge_in(tier: &mut Tier, fork: u32)
+fn merge_tier(tier: &mut Tier, fork: u32)
     ensures used { columns.used tier.new.columns ≡ columns.used tier.old.columns }
     ensures room { tier.new.columns.room ≡ tier.old.columns.room }
     ensures merged { IsMergedNow fork tier.old.columns tier.new.columns }
@@ -75,7 +75,7 @@ impl Board {
         ensures lay { newest_tier (view_of token.new).turns ≡ Some result }
         ensures aim { newest_aim (view_of token.new).turns ≡ aim }
     {
-        self.tier_over(rt, token, aim)
+        self.borrow_tier(rt, token, aim)
     }
 
     /// Puts the tier back and releases its lock, and tells what was done.
@@ -88,7 +88,7 @@ impl Board {
         ensures token { token_of token.new ≡ brought_token home (token_of token.old) }
     {
         let place = self.shared.cells();
-        self.shared.tier_in(token, tier);
+        self.shared.put_tier(token, tier);
         self.shared.give(token, place, home);
     }
 
@@ -103,7 +103,7 @@ impl Board {
         ensures err { OnErr result (token_of token.new ≡ token_of token.old) }
     {
         let mut tier = self.hold_tier(rt, token, Aim::Split);
-        let done = split_in(&mut tier, fork);
+        let done = split_tier(&mut tier, fork);
         let used = tier.used();
         let home = match done {
             Ok(()) => Home::Split { fork, used },
@@ -122,7 +122,7 @@ impl Board {
         ensures token { token_of token.new ≡ merged (token_of token.old) }
     {
         let mut tier = self.hold_tier(rt, token, Aim::Merge);
-        merge_in(&mut tier, fork);
+        merge_tier(&mut tier, fork);
         let used = tier.used();
         self.leave_tier(token, tier, Home::Merge { fork, used });
     }
@@ -221,7 +221,7 @@ impl Board {
         ensures spare { CanPart token.new.track }
     {
         self.shared.draw(token, Draw::Fork { left, right, gap });
-        self.shared.tier_in(token, tier);
+        self.shared.put_tier(token, tier);
         let place = self.shared.cells();
         self.shared.give(token, place, home);
     }

@@ -28,6 +28,6 @@ impl Board {
         ensures token { token_of token.new ≡ was_told (token_of token.old) result }
         ensures word { (track_of token.new.track).word ≡ (track_of token.old.track).word }
     {
-        self.shared.stopped(token)
+        self.shared.is_stopped(token)
     }
 }

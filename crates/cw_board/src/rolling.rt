@@ -23,7 +23,7 @@ use cw_tree::{Kind, Node};
 use std::sync::Wait;
 
 /// Returns the cell that a node touched and its stamp, if the node is an access.
-fn touched(node: &Node) -> Option<(u32, u64)> {
+fn access_of(node: &Node) -> Option<(u32, u64)> {
     match node.kind {
         Kind::Read { cell, .. } | Kind::Write { cell, .. } => Some((cell, node.stamp)),
         _ => None,
@@ -52,7 +52,7 @@ impl Board {
         ensures token { (stamp : ℕ) × (token_of token.new ≡ ended (token_of token.old) Aborted stamp) }
         ensures word { IsHidden (track_of token.old.track) (track_of token.new.track) }
     {
-        let outermost = token.word() == token.begun();
+        let outermost = token.word() == token.begin_stamp();
         self.undo(rt, token);
         self.end(token, true);
         if outermost {
@@ -82,7 +82,7 @@ impl Board {
         let block = token.place() as usize;
         let count = token.nodes().len();
         for n in block..count {
-            let access = token.nodes().get(n).and_then(touched);
+            let access = token.nodes().get(n).and_then(access_of);
             self.undo_access(rt, token, access);
         }
     }
@@ -130,7 +130,7 @@ impl Board {
         ensures token { token_of token.new ≡ token_of token.old }
     {
         for node in log.nodes.as_slice() {
-            self.undo_access(rt, token, touched(node));
+            self.undo_access(rt, token, access_of(node));
         }
     }
 

@@ -48,7 +48,7 @@ impl Board {
     }
 
     /// Waits for the tier's lock, beside those that the token holds, and takes the tier out.
-    pub(crate) fn tier_over<R: Wait>(&self, rt: &R, token: &mut StrandToken, aim: Aim) -> Tier
+    pub(crate) fn borrow_tier<R: Wait>(&self, rt: &R, token: &mut StrandToken, aim: Aim) -> Tier
         requires { IsTokenOf self.now.shared token.old }
         ensures held { HasTierOver self.now slot.Empty token.old token.new }
         ensures tier { HasTier self.now (slot.Tier result) token.new }
@@ -57,11 +57,11 @@ impl Board {
     {
         let place = self.shared.cells();
         self.take_turn(rt, token, place, aim);
-        self.shared.tier_out(token)
+        self.shared.take_tier(token)
     }
 
     /// Puts the tier back unchanged and releases its lock.
-    pub(crate) fn tier_back(&self, token: &mut StrandToken, tier: Tier)
+    pub(crate) fn return_tier(&self, token: &mut StrandToken, tier: Tier)
         requires held { (t : StrandToken) × (y : Slot) × HasTierOver self.now y t token.old }
         requires tier { HasTier self.now (slot.Tier tier) token.old }
         requires lay { newest_tier (view_of token.old).turns ≡ Some tier }
@@ -72,7 +72,7 @@ impl Board {
         ensures notes { (view_of token.new).notes ≡ (view_of token.old).notes }
     {
         let place = self.shared.cells();
-        self.shared.tier_in(token, tier);
+        self.shared.put_tier(token, tier);
         self.shared.give(token, place, Home::Plain);
     }
 }

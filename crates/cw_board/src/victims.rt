@@ -112,9 +112,9 @@ impl Board {
     {
         let mut looks = Steps::<K>::new(blanks.0);
         let mut compares = Steps::<L>::new(blanks.1);
-        let tier = self.tier_over(rt, token, Aim::Look);
+        let tier = self.borrow_tier(rt, token, Aim::Look);
         let found = self.barrier(&tier, token, last, &mut looks, &mut compares);
-        self.tier_back(token, tier);
+        self.return_tier(token, tier);
         found
     }
 
@@ -157,9 +157,9 @@ impl Board {
         ensures compares { compares.new ≤ compares.old + 5 }
     {
         let asker = token.column();
-        let tier = self.tier_over(rt, token, Aim::Look);
+        let tier = self.borrow_tier(rt, token, Aim::Look);
         let verdict = self.ask_tier(&tier, token, last, asker, looks, compares);
-        self.tier_back(token, tier);
+        self.return_tier(token, tier);
         verdict
     }
 }

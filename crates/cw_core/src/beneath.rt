@@ -61,7 +61,7 @@ fn note_node(
 }
 
 /// Returns the cells that live accesses beneath `block` touched. Walks all nodes beneath it.
-pub(crate) fn touched_beneath(
+pub(crate) fn cells_beneath(
     alloc: Global,
     tree: &Linked,
     block: u32,

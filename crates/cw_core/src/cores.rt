@@ -17,7 +17,7 @@ mod fits;
 mod reads;
 mod steps;
 
-use crate::beneath::{backs, touched_beneath};
+use crate::beneath::{backs, cells_beneath};
 use crate::held::{Barrier, Refused, access_kind, conflict_with, put_entry, reserve_entry};
 use crate::linked::Linked;
 use crate::row::{
@@ -371,7 +371,7 @@ impl Core {
     {
         let block = self.row(strand).now.place;
         let alloc = *self.rows.allocator();
-        let touched = touched_beneath(alloc, &self.tree, block)?;
+        let touched = cells_beneath(alloc, &self.tree, block)?;
         let back = backs(alloc, &self.cells, &touched)?;
         let answer = backs(alloc, &self.cells, &touched)?;
         self.rows.reserve(1)?;
@@ -430,7 +430,7 @@ impl Core {
     }
 
     /// Returns what is refused with an access: its victim, or without one the access itself, which by now was tried `tried` times.
-    fn refused(&self, strand: u32, tried: u32, victim: Option<u32>) -> Refused
+    fn refusal(&self, strand: u32, tried: u32, victim: Option<u32>) -> Refused
         requires { IfSome victim (λ block. IsTrue (is_pending self.now.machine.tree block)) }
         ensures victim { result.victim ≡ option_map_or (stamp_of self.now.machine.tree) victim 0 }
         ensures attempt { result.attempt ≡ option_map_or (block_attempt self.now.machine.tree) victim tried }
@@ -471,7 +471,7 @@ impl Core {
         let place = self.row(strand).now.place;
         let tail = tried_tail(cell, self.row(place).tail);
         let victim = self.victim(place, barrier.last, looks, compares);
-        let refused = self.refused(strand, tail.tried, victim);
+        let refused = self.refusal(strand, tail.tried, victim);
         let kept = self.cells[cell as usize].chain()?;
         let chain = self.cells[cell as usize].chain()?;
         self.conflicts.reserve(1)?;
@@ -485,7 +485,7 @@ impl Core {
     }
 
     /// Makes an access, or refuses it if it conflicts with the newest one of its cell. Counts looks and comparisons.
-    fn counted_access<K: Ledger, L: Ledger>(
+    fn try_access<K: Ledger, L: Ledger>(
         &mut self,
         blanks: (Blank, Blank),
         strand: u32,
@@ -515,7 +515,7 @@ impl Core {
         ensures err { OnErr result (self.new ≡ self.old) }
     {
         let blanks = (Blank::new(1), Blank::new(1));
-        self.counted_access::<Brand, Brand>(blanks, strand, cell, write)
+        self.try_access::<Brand, Brand>(blanks, strand, cell, write)
     }
 
     /// Forks `strand`, which then waits for the join.

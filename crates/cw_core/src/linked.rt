@@ -82,7 +82,7 @@ impl Linked {
     }
 
     /// Returns the tree and its links.
-    pub(crate) fn apart(self) -> (Tree, Vec<Link>)
+    pub(crate) fn into_parts(self) -> (Tree, Vec<Link>)
         ensures tree { result.0 ≡ self }
         ensures links { AreLinks self result.1.items }
     {

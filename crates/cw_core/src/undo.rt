@@ -25,7 +25,7 @@ fn cut(cell: &mut Cell, stamp: u64)
 }
 
 /// Returns the cell that `node` reads or writes, if it is an access.
-fn accessed(node: &Node) -> Option<u32>
+fn cell_of(node: &Node) -> Option<u32>
     ensures { result ≡ accessed node.now.kind }
 {
     match node.kind {
@@ -41,7 +41,7 @@ fn undo_access(tree: &Linked, cells: &mut Vec<Cell>, node: u32)
     ensures { AreCut tree.now node cells.old.items cells.new.items }
 {
     let access = tree.node(node);
-    if let Some(cell) = accessed(access) {
+    if let Some(cell) = cell_of(access) {
         cut(&mut cells[cell as usize], access.stamp);
     }
 }

@@ -5,7 +5,7 @@ ghost use Rattle.cw_pool.specs.Accesses.{IsAfter, MayFell, WantsNone, access_wan
 ghost use Rattle.cw_tree.specs.declared.closed.Halt.TheVariants as halt;
 ghost use Rattle.cw_body.specs.declared.stage.Stage.TheVariants as stage;
 
-use crate::moves::halts;
+use crate::moves::halt_out_of_memory;
 use crate::{Mode, Naming, Running, Scene};
 use cw_body::Body;
 use cw_log::{Access, SharedBoard};
@@ -34,7 +34,7 @@ fn given_for(write: Option<i64>, value: i64) -> Given
 }
 
 /// Returns the mode of a strand after `conflict`, which is in its token's log.
-fn refused<B: SharedBoard, J: Naming>(
+fn mode_after_conflict<B: SharedBoard, J: Naming>(
     scene: &Scene<'_, B, J>,
     token: &mut B::Token,
     body: &mut Body,
@@ -59,7 +59,7 @@ fn refused<B: SharedBoard, J: Naming>(
 }
 
 /// Reads or writes a cell for the strand, or has the access refused.
-pub(crate) fn accesses<B: SharedBoard, J: Naming, R: Wait>(
+pub(crate) fn access_cell<B: SharedBoard, J: Naming, R: Wait>(
     rt: &R,
     scene: &Scene<'_, B, J>,
     now: &mut Running<B, J>,
@@ -71,7 +71,7 @@ pub(crate) fn accesses<B: SharedBoard, J: Naming, R: Wait>(
         return;
     };
     let Ok(access) = scene.board.access(rt, &mut now.token, cell, write) else {
-        return halts(scene, now);
+        return halt_out_of_memory(scene, now);
     };
     match access {
         Access::Value(value) => match now.body.answer(given_for(write, value), scene.program) {
@@ -82,7 +82,7 @@ pub(crate) fn accesses<B: SharedBoard, J: Naming, R: Wait>(
             }
         },
         Access::Conflict(conflict) => {
-            now.mode = refused(scene, &mut now.token, &mut now.body, &conflict);
+            now.mode = mode_after_conflict(scene, &mut now.token, &mut now.body, &conflict);
         }
     }
 }

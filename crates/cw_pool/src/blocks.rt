@@ -2,7 +2,7 @@
 ghost use Rattle.std.specs.Prelude.{◌≡◌};
 ghost use Rattle.cw_pool.specs.Blocks.{begin_at};
 
-use crate::moves::halts;
+use crate::moves::halt_out_of_memory;
 use crate::{Mode, Naming, Running, Scene};
 use cw_log::SharedBoard;
 use cw_strand::Want;
@@ -10,7 +10,10 @@ use cw_tree::{Halt, Kind, Node};
 use std::sync::Wait;
 
 /// Begins a block for the strand.
-pub(crate) fn begins<B: SharedBoard, J: Naming>(scene: &Scene<'_, B, J>, now: &mut Running<B, J>) {
+pub(crate) fn begin_block<B: SharedBoard, J: Naming>(
+    scene: &Scene<'_, B, J>,
+    now: &mut Running<B, J>,
+) {
     let Mode::Goes = now.mode else {
         return;
     };
@@ -18,11 +21,11 @@ pub(crate) fn begins<B: SharedBoard, J: Naming>(scene: &Scene<'_, B, J>, now: &m
         return;
     };
     let Ok(saved) = now.body.save() else {
-        return halts(scene, now);
+        return halt_out_of_memory(scene, now);
     };
     let Ok(()) = scene.board.begin(&mut now.token) else {
         drop(saved);
-        return halts(scene, now);
+        return halt_out_of_memory(scene, now);
     };
     match now.body.begins(saved, scene.program) {
         Ok(()) => {}
@@ -34,7 +37,10 @@ pub(crate) fn begins<B: SharedBoard, J: Naming>(scene: &Scene<'_, B, J>, now: &m
 }
 
 /// Ends the strand's innermost block.
-pub(crate) fn ends<B: SharedBoard, J: Naming>(scene: &Scene<'_, B, J>, now: &mut Running<B, J>) {
+pub(crate) fn end_block<B: SharedBoard, J: Naming>(
+    scene: &Scene<'_, B, J>,
+    now: &mut Running<B, J>,
+) {
     let Mode::Goes = now.mode else {
         return;
     };
@@ -66,7 +72,7 @@ pub(crate) fn begin_at(nodes: &[Node], place: u32) -> Option<u64>
 
 /// Rolls back the innermost block of a strand that goes back. If that is the block to which it goes, the strand then stands at its
 /// begin.
-pub(crate) fn rolls<B: SharedBoard, J: Naming, R: Wait>(
+pub(crate) fn roll_block<B: SharedBoard, J: Naming, R: Wait>(
     rt: &R,
     scene: &Scene<'_, B, J>,
     now: &mut Running<B, J>,

@@ -35,7 +35,7 @@ pub(crate) fn empty_box<B: SharedBoard, J: Naming>(
 }
 
 /// Takes the task out of its box.
-pub(crate) fn taken_up<B: SharedBoard, J: Naming>(full: TaskBox<B, J>) -> Option<Task<B, J>> {
+pub(crate) fn take_up<B: SharedBoard, J: Naming>(full: TaskBox<B, J>) -> Option<Task<B, J>> {
     let mut home = full;
     let room: &mut Room<B, J> = &mut home;
     let held = room.task.take();
@@ -50,7 +50,7 @@ pub(crate) fn taken_up<B: SharedBoard, J: Naming>(full: TaskBox<B, J>) -> Option
 }
 
 /// Packs a task into its box.
-pub(crate) fn packed<B: SharedBoard, J: Naming>(task: Task<B, J>) -> TaskBox<B, J> {
+pub(crate) fn pack<B: SharedBoard, J: Naming>(task: Task<B, J>) -> TaskBox<B, J> {
     let Task { mut home, now } = task;
     let room: &mut Room<B, J> = &mut home;
     drop(mem::replace(&mut room.task, Some(now)));
@@ -92,10 +92,10 @@ impl<B: SharedBoard, J: Naming> Boxes<B, J> {
 
     /// Lets a task wait here: in the deque, or in the list `kept` if the deque cannot take it. No thief looks into that list, so
     /// while it has tasks, later ones go there, too.
-    pub(crate) fn keeps(&mut self, task: Task<B, J>)
+    pub(crate) fn push(&mut self, task: Task<B, J>)
         requires { vec_len self.old.kept < vec_capacity self.old.kept }
     {
-        let full = packed(task);
+        let full = pack(task);
         if !self.kept.is_empty() {
             self.kept.push_reserved(full);
             return;
@@ -107,15 +107,15 @@ impl<B: SharedBoard, J: Naming> Boxes<B, J> {
     }
 
     /// Removes and returns the newest task that waits here.
-    pub(crate) fn newest(&mut self) -> Option<Task<B, J>> {
+    pub(crate) fn pop(&mut self) -> Option<Task<B, J>> {
         match self.kept.pop() {
-            Some(full) => taken_up(full),
-            None => taken_up(self.deck.pop()?),
+            Some(full) => take_up(full),
+            None => take_up(self.deck.pop()?),
         }
     }
 
     /// Keeps an empty box for later use.
-    pub(crate) fn spares(&mut self, empty: TaskBox<B, J>) {
+    pub(crate) fn recycle(&mut self, empty: TaskBox<B, J>) {
         if self.spare.len() < SPARE && self.spare.reserve(1).is_ok() {
             self.spare.push_reserved(empty);
         }

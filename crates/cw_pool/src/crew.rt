@@ -18,7 +18,7 @@ use std::{mem, thread};
 pub(crate) type Crew<B, J> = Vec<Worker<B, J>>;
 
 /// Makes `workers` workers, each with pair numbers of its own for its forks. They cannot steal yet.
-fn strangers<B: SharedBoard, J: Naming>(
+fn new_workers<B: SharedBoard, J: Naming>(
     alloc: Global,
     workers: u32,
     pairs: &Pairs<Memo<B::Token>, J>,
@@ -47,7 +47,7 @@ fn thief_of<B: SharedBoard, J: Naming>(
 }
 
 /// Gives each worker a thief of every other one, the next worker's first.
-fn acquaints<B: SharedBoard, J: Naming>(crew: &mut [Worker<B, J>]) -> Result<(), OutOfMemory> {
+fn connect<B: SharedBoard, J: Naming>(crew: &mut [Worker<B, J>]) -> Result<(), OutOfMemory> {
     let count = crew.len();
     for mine in 0..count {
         for step in 1..count {
@@ -60,14 +60,14 @@ fn acquaints<B: SharedBoard, J: Naming>(crew: &mut [Worker<B, J>]) -> Result<(),
 }
 
 /// Makes `workers` workers, each of which may steal from all others.
-pub(crate) fn crew_of<B: SharedBoard, J: Naming>(
+pub(crate) fn make_workers<B: SharedBoard, J: Naming>(
     alloc: Global,
     workers: u32,
     pairs: &Pairs<Memo<B::Token>, J>,
     source: Source<Memo<B::Token>, J>,
 ) -> Result<Crew<B, J>, OutOfMemory> {
-    let mut crew = strangers(alloc, workers, pairs, source)?;
-    acquaints(&mut crew)?;
+    let mut crew = new_workers(alloc, workers, pairs, source)?;
+    connect(&mut crew)?;
     Ok(crew)
 }
 
@@ -79,13 +79,13 @@ fn run_worker<B: SharedBoard, J: Naming, G: Gate, R: Threads + Wait + Sync>(
     first: Option<Task<B, J>>,
 ) {
     let mut worker = worker;
-    worker.works(rt, common, first);
+    worker.work(rt, common, first);
     drop(worker);
 }
 
 /// Runs all workers until the run is over, the first one on the caller's thread. A worker whose thread could not be started is
 /// missing.
-pub(crate) fn all_work<B: SharedBoard, J: Naming, G: Gate, R: Threads + Wait + Sync>(
+pub(crate) fn run_workers<B: SharedBoard, J: Naming, G: Gate, R: Threads + Wait + Sync>(
     rt: &R,
     common: &Common<'_, B, J, G>,
     crew: Crew<B, J>,

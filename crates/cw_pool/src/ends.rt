@@ -6,7 +6,7 @@ ghost use Rattle.cw_pool.specs.Tasks.{IsRunning};
 ghost use Rattle.cw_pool.specs.declared.task.Below.TheVariants as entry;
 
 use crate::blocks::begin_at;
-use crate::last::ends_run;
+use crate::last::finish_run;
 use crate::sides::task_of;
 use crate::{Base, Below, Ended, Mode, Naming, Running, Scene};
 use cw_body::Body;
@@ -47,7 +47,7 @@ pub(crate) fn may_end<B: SharedBoard, J: Naming>(
 }
 
 /// Makes the task of the strand that forked, behind both its strands. The right strand's body becomes its own.
-pub(crate) fn behind<B: SharedBoard, J: Naming>(
+pub(crate) fn rejoin<B: SharedBoard, J: Naming>(
     scene: &Scene<'_, B, J>,
     token: B::Token,
     right: Body,
@@ -83,7 +83,7 @@ pub(crate) fn behind<B: SharedBoard, J: Naming>(
 
 /// After the left strand of an inline fork: goes on with the right one or, if the left one died or was stopped, with the strand
 /// that forked.
-fn turned<B: SharedBoard, J: Naming>(
+fn turn_to_right<B: SharedBoard, J: Naming>(
     scene: &Scene<'_, B, J>,
     token: B::Token,
     body: Body,
@@ -101,14 +101,14 @@ fn turned<B: SharedBoard, J: Naming>(
     scene.board.next_branch(&mut token);
     let Mode::Goes = mode else {
         scene.board.next_branch(&mut token);
-        return behind(scene, token, right, mode, below, base, body);
+        return rejoin(scene, token, right, mode, below, base, body);
     };
     below.push_reserved(Below::Second { left: body });
     task_of(token, right, Mode::Goes, below, base)
 }
 
 /// After the right strand of an inline fork: goes on with the strand that forked.
-fn second<B: SharedBoard, J: Naming>(
+fn finish_second<B: SharedBoard, J: Naming>(
     scene: &Scene<'_, B, J>,
     token: B::Token,
     body: Body,
@@ -122,11 +122,11 @@ fn second<B: SharedBoard, J: Naming>(
 {
     let mut token = token;
     scene.board.next_branch(&mut token);
-    behind(scene, token, body, mode, below, base, left)
+    rejoin(scene, token, body, mode, below, base, left)
 }
 
 /// After the right strand of a fork that was taken back: goes on with the strand that forked.
-fn taken<B: SharedBoard, J: Naming>(
+fn finish_taken<B: SharedBoard, J: Naming>(
     scene: &Scene<'_, B, J>,
     token: B::Token,
     body: Body,
@@ -140,11 +140,11 @@ fn taken<B: SharedBoard, J: Naming>(
     requires end { MayEnd mode (B.of token) body }
 {
     let token = scene.board.join(first, token);
-    behind(scene, token, body, mode, below, base, left)
+    rejoin(scene, token, body, mode, below, base, left)
 }
 
 /// After the lowest strand of a task.
-fn lowest<B: SharedBoard, J: Naming>(
+fn finish_lowest<B: SharedBoard, J: Naming>(
     token: B::Token,
     body: Body,
     mode: Mode,
@@ -156,7 +156,7 @@ fn lowest<B: SharedBoard, J: Naming>(
     requires alone { below.items ≡ [] }
 {
     match base {
-        Base::Root => After::Ended(ends_run(token, body, mode, below, Base::Root)),
+        Base::Root => After::Ended(finish_run(token, body, mode, below, Base::Root)),
         Base::Right { fork, half } => {
             let base = Base::Right { fork, half };
             After::Right(task_of(token, body, mode, below, base))
@@ -165,7 +165,7 @@ fn lowest<B: SharedBoard, J: Naming>(
 }
 
 /// Returns what follows a strand that is over. A strand that may not end yet is given back unchanged.
-pub(crate) fn ends<B: SharedBoard, J: Naming>(
+pub(crate) fn finish<B: SharedBoard, J: Naming>(
     scene: &Scene<'_, B, J>,
     now: Running<B, J>,
 ) -> Result<After<B, J>, Running<B, J>> {
@@ -186,17 +186,17 @@ pub(crate) fn ends<B: SharedBoard, J: Naming>(
             Ok(After::Left(task_of(token, body, mode, below, base)))
         }
         Some(Below::Inline { right }) => {
-            let now = turned(scene, token, body, mode, below, base, right);
+            let now = turn_to_right(scene, token, body, mode, below, base, right);
             Ok(After::Goes(now))
         }
         Some(Below::Second { left }) => {
-            let now = second(scene, token, body, mode, below, base, left);
+            let now = finish_second(scene, token, body, mode, below, base, left);
             Ok(After::Goes(now))
         }
         Some(Below::Taken { token: first, left }) => {
-            let now = taken(scene, token, body, mode, below, base, first, left);
+            let now = finish_taken(scene, token, body, mode, below, base, first, left);
             Ok(After::Goes(now))
         }
-        None => Ok(lowest(token, body, mode, below, base)),
+        None => Ok(finish_lowest(token, body, mode, below, base)),
     }
 }

@@ -3,7 +3,7 @@ ghost use Rattle.std.specs.Prelude.{◌<◌};
 ghost use Rattle.std.specs.Vec.{vec_len, vec_capacity};
 ghost use Rattle.cw_pool.specs.Forks.{AreForkTokens, IsForking};
 
-use crate::moves::halts;
+use crate::moves::halt_out_of_memory;
 use crate::{Base, Below, Memo, Mode, Naming, Running, Scene};
 use cw_body::Body;
 use cw_log::{Forked, SharedBoard};
@@ -15,7 +15,7 @@ use std::snapshot::Snapshot;
 use std::sync::Wait;
 
 /// Forks a strand, and goes on with its left strand. If the right strand has a token of its own, its task is returned second.
-pub(crate) fn forks<B: SharedBoard, J: Naming, R: Wait>(
+pub(crate) fn fork<B: SharedBoard, J: Naming, R: Wait>(
     rt: &R,
     scene: &Scene<'_, B, J>,
     source: &mut Source<Memo<B::Token>, J>,
@@ -29,11 +29,11 @@ pub(crate) fn forks<B: SharedBoard, J: Naming, R: Wait>(
         return (now, None);
     };
     let true = source.has_more() else {
-        halts(scene, &mut now);
+        halt_out_of_memory(scene, &mut now);
         return (now, None);
     };
     let Ok(()) = now.below.reserve(1) else {
-        halts(scene, &mut now);
+        halt_out_of_memory(scene, &mut now);
         return (now, None);
     };
     let before = Snapshot::of(&now.body);
@@ -49,11 +49,11 @@ pub(crate) fn forks<B: SharedBoard, J: Naming, R: Wait>(
         base,
         ..
     } = now;
-    parts(rt, scene, source, token, before, left, right, below, base)
+    fork_token(rt, scene, source, token, before, left, right, below, base)
 }
 
 /// Forks on the board a strand whose body has forked.
-fn parts<B: SharedBoard, J: Naming, R: Wait>(
+fn fork_token<B: SharedBoard, J: Naming, R: Wait>(
     rt: &R,
     scene: &Scene<'_, B, J>,
     source: &mut Source<Memo<B::Token>, J>,
@@ -102,7 +102,7 @@ fn parts<B: SharedBoard, J: Naming, R: Wait>(
             fork,
             left: token,
             right: other,
-        } => apart(
+        } => set_apart(
             scene, source, fork, token, other, before, left, right, below, base,
         ),
     }
@@ -110,7 +110,7 @@ fn parts<B: SharedBoard, J: Naming, R: Wait>(
 
 /// Makes the tasks of both strands of a fork with two tokens, each with its half of the pair: the left one goes on, the right one
 /// waits.
-fn apart<B: SharedBoard, J: Naming>(
+fn set_apart<B: SharedBoard, J: Naming>(
     scene: &Scene<'_, B, J>,
     source: &mut Source<Memo<B::Token>, J>,
     fork: u32,

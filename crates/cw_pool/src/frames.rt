@@ -1,6 +1,6 @@
 //! Where the two strands of a stolen fork meet.
 use crate::Naming;
-use crate::boxes::{Task, TaskBox, packed};
+use crate::boxes::{Task, TaskBox, pack};
 use cw_base::OutOfMemory;
 use cw_log::SharedBoard;
 use std::alloc::Global;
@@ -79,7 +79,7 @@ pub(crate) fn meet<B: SharedBoard, J: Naming, R: Wait>(
     match held.take() {
         Some(other) => Some((mine, other)),
         None => {
-            drop(mem::replace(held, Some(packed(mine))));
+            drop(mem::replace(held, Some(pack(mine))));
             None
         }
     }

@@ -2,14 +2,14 @@
 ghost use Rattle.std.specs.Prelude.{◌≡◌};
 ghost use Rattle.cw_pool.specs.Ends.{IsMerged, IsToMerge, mode_of_both};
 
-use crate::ends::{behind, may_end};
-use crate::sides::{LeftTask, RightTask, taken_apart, task_of};
+use crate::ends::{may_end, rejoin};
+use crate::sides::{LeftTask, RightTask, take_apart, task_of};
 use crate::{Below, Mode, Naming, Running, Scene};
 use cw_log::SharedBoard;
 use std::sync::Wait;
 
 /// The mode of the strand that forked, given the modes of its two strands.
-fn both(left: Mode, right: Mode) -> Mode
+fn joint_mode(left: Mode, right: Mode) -> Mode
     ensures { result ≡ mode_of_both left right }
 {
     match left {
@@ -24,7 +24,7 @@ fn both(left: Mode, right: Mode) -> Mode
 }
 
 /// Merges what the split of a fork parted, unless a strand was stopped.
-fn merges<B: SharedBoard, J: Naming, R: Wait>(
+fn merge_unless_stopped<B: SharedBoard, J: Naming, R: Wait>(
     rt: &R,
     scene: &Scene<'_, B, J>,
     token: B::Token,
@@ -46,12 +46,12 @@ fn merges<B: SharedBoard, J: Naming, R: Wait>(
 
 /// Lets a right strand that no worker stole go on after its left one; if the left one died or was stopped, joins both. Gives both
 /// back if they are not of one fork, or the right one does not wait, or the left one is not over.
-pub(crate) fn takes_back_task<B: SharedBoard, J: Naming>(
+pub(crate) fn take_back_task<B: SharedBoard, J: Naming>(
     scene: &Scene<'_, B, J>,
     left: Running<B, J>,
     right: Running<B, J>,
 ) -> Result<Running<B, J>, (Running<B, J>, Running<B, J>)> {
-    let (left, right) = taken_apart(scene, left, right)?;
+    let (left, right) = take_apart(scene, left, right)?;
     let Mode::Waits = right.mode else {
         return Err((left.whole(), right.whole()));
     };
@@ -78,7 +78,7 @@ pub(crate) fn takes_back_task<B: SharedBoard, J: Naming>(
     scene.pairs.meet(half, theirs);
     let Mode::Goes = mode else {
         let token = scene.board.join(token, other);
-        return Ok(behind(scene, token, body, mode, below, base, ended));
+        return Ok(rejoin(scene, token, body, mode, below, base, ended));
     };
     scene.board.take_back(&mut token, &mut other);
     below.push_reserved(Below::Taken { token, left: ended });
@@ -87,20 +87,20 @@ pub(crate) fn takes_back_task<B: SharedBoard, J: Naming>(
 
 /// Joins the two strands of a fork, each of which ended in a task of its own. Returns the task of the strand that forked. Gives
 /// both back if they are not of one fork, or have not ended.
-pub(crate) fn meets<B: SharedBoard, J: Naming, R: Wait>(
+pub(crate) fn join_stolen<B: SharedBoard, J: Naming, R: Wait>(
     rt: &R,
     scene: &Scene<'_, B, J>,
     left: Running<B, J>,
     right: Running<B, J>,
 ) -> Result<Running<B, J>, (Running<B, J>, Running<B, J>)> {
-    let (left, right) = taken_apart(scene, left, right)?;
+    let (left, right) = take_apart(scene, left, right)?;
     let true = may_end(scene, &right.token, &right.body, right.mode) else {
         return Err((left.whole(), right.whole()));
     };
     let true = left.half.number() == right.half.number() else {
         return Err((left.whole(), right.whole()));
     };
-    let mode = both(left.mode, right.mode);
+    let mode = joint_mode(left.mode, right.mode);
     let LeftTask {
         token,
         body: ended,
@@ -120,6 +120,6 @@ pub(crate) fn meets<B: SharedBoard, J: Naming, R: Wait>(
     drop(nothing);
     scene.pairs.meet(half, theirs);
     let token = scene.board.join(token, other);
-    let token = merges(rt, scene, token, mode, fork);
-    Ok(behind(scene, token, body, mode, below, base, ended))
+    let token = merge_unless_stopped(rt, scene, token, mode, fork);
+    Ok(rejoin(scene, token, body, mode, below, base, ended))
 }

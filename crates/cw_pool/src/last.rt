@@ -30,7 +30,7 @@ impl<B: SharedBoard, J: Naming> Model for Ended<B, J> {
     ghost invariant = { λ e. IsWorked J.job (B.of e.token) × (IsTrue e.is_whole → (B.of e.token).told ≡ false) };
 }
 
-fn goes(mode: Mode) -> bool
+fn is_going(mode: Mode) -> bool
     ensures { IsTrue result → mode ≡ how.Goes }
 {
     match mode {
@@ -40,7 +40,7 @@ fn goes(mode: Mode) -> bool
 }
 
 /// Ends the run after the strand of main.
-pub(crate) fn ends_run<B: SharedBoard, J: Naming>(
+pub(crate) fn finish_run<B: SharedBoard, J: Naming>(
     token: B::Token,
     body: Body,
     mode: Mode,
@@ -52,7 +52,7 @@ pub(crate) fn ends_run<B: SharedBoard, J: Naming>(
     requires alone { below.items ≡ [] }
     requires root { base ≡ bottom.Root }
 {
-    let is_whole = goes(mode);
+    let is_whole = is_going(mode);
     drop(body);
     drop(below);
     drop(base);

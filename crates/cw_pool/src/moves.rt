@@ -5,7 +5,10 @@ use cw_strand::{Given, Want};
 use cw_tree::Halt;
 
 /// Stops the strand if the run has been halted.
-pub(crate) fn looks<B: SharedBoard, J: Naming>(scene: &Scene<'_, B, J>, now: &mut Running<B, J>) {
+pub(crate) fn check_stop<B: SharedBoard, J: Naming>(
+    scene: &Scene<'_, B, J>,
+    now: &mut Running<B, J>,
+) {
     match scene.board.halted(&mut now.token) {
         true => {
             now.mode = Mode::Stopped;
@@ -15,7 +18,10 @@ pub(crate) fn looks<B: SharedBoard, J: Naming>(scene: &Scene<'_, B, J>, now: &mu
 }
 
 /// Stops a strand that ran out of memory.
-pub(crate) fn halts<B: SharedBoard, J: Naming>(scene: &Scene<'_, B, J>, now: &mut Running<B, J>) {
+pub(crate) fn halt_out_of_memory<B: SharedBoard, J: Naming>(
+    scene: &Scene<'_, B, J>,
+    now: &mut Running<B, J>,
+) {
     let Mode::Goes = now.mode else {
         return;
     };
@@ -24,10 +30,7 @@ pub(crate) fn halts<B: SharedBoard, J: Naming>(scene: &Scene<'_, B, J>, now: &mu
 }
 
 /// Outputs a value for the strand.
-pub(crate) fn puts_out<B: SharedBoard, J: Naming>(
-    scene: &Scene<'_, B, J>,
-    now: &mut Running<B, J>,
-) {
+pub(crate) fn put_out<B: SharedBoard, J: Naming>(scene: &Scene<'_, B, J>, now: &mut Running<B, J>) {
     let Mode::Goes = now.mode else {
         return;
     };
@@ -35,7 +38,7 @@ pub(crate) fn puts_out<B: SharedBoard, J: Naming>(
         return;
     };
     let Ok(()) = scene.board.out(&mut now.token, value) else {
-        return halts(scene, now);
+        return halt_out_of_memory(scene, now);
     };
     match now.body.answer(Given::Nothing, scene.program) {
         Ok(()) => {}
@@ -47,7 +50,10 @@ pub(crate) fn puts_out<B: SharedBoard, J: Naming>(
 }
 
 /// Stops a strand that stands at a fault.
-pub(crate) fn faults<B: SharedBoard, J: Naming>(scene: &Scene<'_, B, J>, now: &mut Running<B, J>) {
+pub(crate) fn stop_at_fault<B: SharedBoard, J: Naming>(
+    scene: &Scene<'_, B, J>,
+    now: &mut Running<B, J>,
+) {
     let Mode::Goes = now.mode else {
         return;
     };

@@ -48,7 +48,7 @@ fn has_record(closed: &Closed, is_whole: bool) -> bool
 }
 
 /// Makes the record from what a board gave when it was closed with the root's token.
-fn recorded(
+fn record_of(
     alloc: Global,
     program: Program,
     words: Seq<i64>,
@@ -114,7 +114,7 @@ fn run_named<N: Naming, G: Gate, R: Threads + Wait + Sync>(
         gate,
     );
     match board.close(token) {
-        Ok(closed) => recorded(alloc, program, words, limits, closed, is_whole),
+        Ok(closed) => record_of(alloc, program, words, limits, closed, is_whole),
         Err((_, _, error)) => Err(error),
     }
 }

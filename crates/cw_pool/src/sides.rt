@@ -184,7 +184,7 @@ impl<B: SharedBoard, J: Naming> RightTask<B, J> {
 }
 
 /// Takes apart the tasks of the left and the right strand of a fork. If they are none, gives both back.
-pub(crate) fn taken_apart<B: SharedBoard, J: Naming>(
+pub(crate) fn take_apart<B: SharedBoard, J: Naming>(
     scene: &Scene<'_, B, J>,
     left: Running<B, J>,
     right: Running<B, J>,

@@ -5,7 +5,7 @@ use std::sync::Wait;
 
 /// Splits the fork of a right strand that waits, which then goes on. Returns false if another fork has to be split first; the
 /// strand then waits as before.
-pub(crate) fn splits<B: SharedBoard, J: Naming, R: Wait>(
+pub(crate) fn try_split<B: SharedBoard, J: Naming, R: Wait>(
     rt: &R,
     scene: &Scene<'_, B, J>,
     now: &mut Running<B, J>,

@@ -1,9 +1,9 @@
 //! A step of a strand by itself.
 ghost use Rattle.std.specs.Prelude.{◌≡◌};
 
-use crate::access::accesses;
-use crate::blocks::{begins, ends, rolls};
-use crate::moves::{faults, puts_out};
+use crate::access::access_cell;
+use crate::blocks::{begin_block, end_block, roll_block};
+use crate::moves::{put_out, stop_at_fault};
 use crate::{Mode, Naming, Running, Scene};
 use cw_io::{Gate, Point};
 use cw_log::SharedBoard;
@@ -16,7 +16,7 @@ use std::{hint, thread};
 /// The number of spins between two tries of a refused access or block.
 const TURNS: u32 = 1_000;
 
-fn pauses() {
+fn pause() {
     for _ in 0..TURNS {
         hint::spin_loop();
     }
@@ -32,16 +32,16 @@ fn is_refused(nodes: &[Node]) -> bool {
 }
 
 /// Backs off after a refused access.
-fn waits_if_refused<B: SharedBoard, J: Naming>(scene: &Scene<'_, B, J>, now: &Running<B, J>) {
+fn pause_if_refused<B: SharedBoard, J: Naming>(scene: &Scene<'_, B, J>, now: &Running<B, J>) {
     if let Mode::Goes = now.mode {
         if is_refused(scene.board.nodes(&now.token)) {
-            pauses();
+            pause();
         }
     }
 }
 
 /// Does what the strand wants, except a fork or its end.
-pub(crate) fn acts<B: SharedBoard, J: Naming, G: Gate, R: Threads + Wait + Sync>(
+pub(crate) fn step<B: SharedBoard, J: Naming, G: Gate, R: Threads + Wait + Sync>(
     rt: &R,
     scene: &Scene<'_, B, J>,
     gate: &G,
@@ -54,32 +54,32 @@ pub(crate) fn acts<B: SharedBoard, J: Naming, G: Gate, R: Threads + Wait + Sync>
     match now.body.want() {
         Want::Begin => {
             gate.at(rt, worker, Point::Begin);
-            begins(scene, now);
+            begin_block(scene, now);
         }
         Want::End => {
             gate.at(rt, worker, Point::Commit);
-            ends(scene, now);
+            end_block(scene, now);
         }
         Want::Load(_) | Want::Store(..) => {
             gate.at(rt, worker, Point::Access);
-            accesses(rt, scene, now);
-            waits_if_refused(scene, now);
+            access_cell(rt, scene, now);
+            pause_if_refused(scene, now);
         }
-        Want::Out(_) => puts_out(scene, now),
-        Want::Fault(_) => faults(scene, now),
+        Want::Out(_) => put_out(scene, now),
+        Want::Fault(_) => stop_at_fault(scene, now),
         Want::Cancel => unreachable!(),
         Want::Fork | Want::Sync | Want::Done => {}
     }
 }
 
 /// Rolls back a block of a strand that goes back. If the strand then stands at its begin again, backs off.
-pub(crate) fn goes_back<B: SharedBoard, J: Naming, R: Wait>(
+pub(crate) fn go_back<B: SharedBoard, J: Naming, R: Wait>(
     rt: &R,
     scene: &Scene<'_, B, J>,
     now: &mut Running<B, J>,
 ) {
-    rolls(rt, scene, now);
+    roll_block(rt, scene, now);
     if let Mode::Goes = now.mode {
-        pauses();
+        pause();
     }
 }

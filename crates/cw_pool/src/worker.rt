@@ -1,13 +1,13 @@
 //! A worker, and what it does step by step.
-use crate::boxes::{Boxes, Task, TaskBox, taken_up};
-use crate::ends::{After, ends, may_end};
-use crate::forks::forks;
+use crate::boxes::{Boxes, Task, TaskBox, take_up};
+use crate::ends::{After, finish, may_end};
+use crate::forks::fork;
 use crate::frames::{Frame, Frames, meet};
-use crate::joins::{meets, takes_back_task};
-use crate::moves::{halts, looks};
+use crate::joins::{join_stolen, take_back_task};
+use crate::moves::{check_stop, halt_out_of_memory};
 use crate::sides::{left_number, right_number};
-use crate::splits::splits;
-use crate::turns::{acts, goes_back};
+use crate::splits::try_split;
+use crate::turns::{go_back, step};
 use crate::{Ended, Memo, Mode, Naming, Running, Scene};
 use crossbeam_utils::{Backoff, CachePadded};
 use cw_base::OutOfMemory;
@@ -66,7 +66,7 @@ pub(crate) struct Worker<B: SharedBoard, J: Naming> {
 
 impl<B: SharedBoard, J: Naming> Worker<B, J> {
     /// Works until the run is over.
-    pub(crate) fn works<G: Gate, R: Threads + Wait + Sync>(
+    pub(crate) fn work<G: Gate, R: Threads + Wait + Sync>(
         &mut self,
         rt: &R,
         common: &Common<'_, B, J, G>,
@@ -84,7 +84,7 @@ impl<B: SharedBoard, J: Naming> Worker<B, J> {
                     if common.is_over() {
                         return;
                     }
-                    now = self.steals(rt, common);
+                    now = self.steal(rt, common);
                     if now.is_some() {
                         idle.reset();
                     } else {
@@ -105,22 +105,22 @@ impl<B: SharedBoard, J: Naming> Worker<B, J> {
     ) -> Option<Task<B, J>> {
         let mut task = task;
         let now = &mut task.now;
-        looks(&common.scene, now);
+        check_stop(&common.scene, now);
         if may_end(&common.scene, &now.token, &now.body, now.mode) {
-            return self.ends(rt, common, task);
+            return self.finish(rt, common, task);
         }
         match now.mode {
             Mode::Goes => match now.body.want() {
-                Want::Fork => return Some(self.forks(rt, common, task)),
-                _ => acts(rt, &common.scene, common.gate, self.number, now),
+                Want::Fork => return Some(self.fork(rt, common, task)),
+                _ => step(rt, &common.scene, common.gate, self.number, now),
             },
-            _ => goes_back(rt, &common.scene, now),
+            _ => go_back(rt, &common.scene, now),
         }
         Some(task)
     }
 
     /// Forks a strand, and goes on with the left one. All memory is taken before the board's fork.
-    fn forks<G: Gate, R: Threads + Wait + Sync>(
+    fn fork<G: Gate, R: Threads + Wait + Sync>(
         &mut self,
         rt: &R,
         common: &Common<'_, B, J, G>,
@@ -135,43 +135,43 @@ impl<B: SharedBoard, J: Naming> Worker<B, J> {
             ..
         } = self;
         let boxes: &mut Boxes<B, J> = boxes;
-        let Ok(()) = makes_frame(rt, common, *number, source.next()) else {
-            halts(scene, &mut now);
+        let Ok(()) = make_frame(rt, common, *number, source.next()) else {
+            halt_out_of_memory(scene, &mut now);
             return Task { home, now };
         };
         let Ok(empty) = boxes.room(scene.alloc) else {
-            halts(scene, &mut now);
+            halt_out_of_memory(scene, &mut now);
             return Task { home, now };
         };
-        let (now, waiting) = forks(rt, scene, source, now);
+        let (now, waiting) = fork(rt, scene, source, now);
         match waiting {
-            Some(right) => boxes.keeps(Task {
+            Some(right) => boxes.push(Task {
                 home: empty,
                 now: right,
             }),
             None => {
                 drop(waiting);
-                boxes.spares(empty);
+                boxes.recycle(empty);
             }
         }
         Task { home, now }
     }
 
     /// Handles a strand that is over: it came to its end, died or was stopped.
-    fn ends<G: Gate, R: Threads + Wait + Sync>(
+    fn finish<G: Gate, R: Threads + Wait + Sync>(
         &mut self,
         rt: &R,
         common: &Common<'_, B, J, G>,
         task: Task<B, J>,
     ) -> Option<Task<B, J>> {
         let Task { home, now } = task;
-        match ends(&common.scene, now) {
+        match finish(&common.scene, now) {
             Err(now) => Some(Task { home, now }),
             Ok(After::Goes(now)) => Some(Task { home, now }),
-            Ok(After::Left(now)) => self.after_left(rt, common, Task { home, now }),
+            Ok(After::Left(now)) => self.follow_left(rt, common, Task { home, now }),
             Ok(After::Right(now)) => {
                 let number = right_number(&now);
-                self.at_frame(rt, common, number, Task { home, now }, false)
+                self.meet_at_frame(rt, common, number, Task { home, now }, false)
             }
             Ok(After::Ended(ended)) => {
                 drop(home);
@@ -183,20 +183,20 @@ impl<B: SharedBoard, J: Naming> Worker<B, J> {
     }
 
     /// Goes on after the left strand of a fork: its right one waits here, or was stolen.
-    fn after_left<G: Gate, R: Threads + Wait + Sync>(
+    fn follow_left<G: Gate, R: Threads + Wait + Sync>(
         &mut self,
         rt: &R,
         common: &Common<'_, B, J, G>,
         task: Task<B, J>,
     ) -> Option<Task<B, J>> {
         let boxes: &mut Boxes<B, J> = &mut self.boxes;
-        let newest = boxes.newest();
+        let newest = boxes.pop();
         match newest {
             Some(waiting) => self.take_back_right(rt, common, task, waiting),
             None => {
                 drop(newest);
                 let number = left_number(&task.now);
-                self.at_frame(rt, common, number, task, true)
+                self.meet_at_frame(rt, common, number, task, true)
             }
         }
     }
@@ -214,9 +214,9 @@ impl<B: SharedBoard, J: Naming> Worker<B, J> {
             now: right,
         } = waiting;
         let boxes: &mut Boxes<B, J> = &mut self.boxes;
-        boxes.spares(emptied);
+        boxes.recycle(emptied);
         let Task { home, now } = task;
-        match takes_back_task(&common.scene, now, right) {
+        match take_back_task(&common.scene, now, right) {
             Ok(now) => Some(Task { home, now }),
             Err(both) => {
                 drop(both);
@@ -227,7 +227,7 @@ impl<B: SharedBoard, J: Naming> Worker<B, J> {
     }
 
     /// Lets a strand of a stolen fork wait for the other strand, or joins both.
-    fn at_frame<G: Gate, R: Threads + Wait + Sync>(
+    fn meet_at_frame<G: Gate, R: Threads + Wait + Sync>(
         &mut self,
         rt: &R,
         common: &Common<'_, B, J, G>,
@@ -258,7 +258,7 @@ impl<B: SharedBoard, J: Naming> Worker<B, J> {
         full: TaskBox<B, J>,
         is_left: bool,
     ) -> Option<Task<B, J>> {
-        let other = taken_up(full);
+        let other = take_up(full);
         let Some(other) = other else {
             drop(other);
             drop(task);
@@ -270,11 +270,11 @@ impl<B: SharedBoard, J: Naming> Worker<B, J> {
             now: then,
         } = other;
         let boxes: &mut Boxes<B, J> = &mut self.boxes;
-        boxes.spares(emptied);
+        boxes.recycle(emptied);
         let met = if is_left {
-            meets(rt, &common.scene, now, then)
+            join_stolen(rt, &common.scene, now, then)
         } else {
-            meets(rt, &common.scene, then, now)
+            join_stolen(rt, &common.scene, then, now)
         };
         match met {
             Ok(now) => Some(Task { home, now }),
@@ -287,17 +287,17 @@ impl<B: SharedBoard, J: Naming> Worker<B, J> {
     }
 
     /// Steals the oldest task of another worker. Its strand begins once its fork is split, unless the run was stopped.
-    fn steals<G: Gate, R: Threads + Wait + Sync>(
+    fn steal<G: Gate, R: Threads + Wait + Sync>(
         &mut self,
         rt: &R,
         common: &Common<'_, B, J, G>,
     ) -> Option<Task<B, J>> {
-        let mut task = self.looks_around(rt, common)?;
-        splits_at_last(rt, common, &mut task.now);
+        let mut task = self.take_from_others(rt, common)?;
+        wait_for_split(rt, common, &mut task.now);
         Some(task)
     }
 
-    fn looks_around<G: Gate, R: Threads + Wait + Sync>(
+    fn take_from_others<G: Gate, R: Threads + Wait + Sync>(
         &mut self,
         rt: &R,
         common: &Common<'_, B, J, G>,
@@ -305,7 +305,7 @@ impl<B: SharedBoard, J: Naming> Worker<B, J> {
         for other in self.others.iter_mut() {
             common.gate.at(rt, self.number, Point::Steal);
             if let Some(full) = other.steal(rt) {
-                return taken_up(full);
+                return take_up(full);
             }
         }
         None
@@ -313,7 +313,7 @@ impl<B: SharedBoard, J: Naming> Worker<B, J> {
 }
 
 /// Makes the frame of the worker's fork with this pair number.
-fn makes_frame<B: SharedBoard, J: Naming, G: Gate, R: Wait>(
+fn make_frame<B: SharedBoard, J: Naming, G: Gate, R: Wait>(
     rt: &R,
     common: &Common<'_, B, J, G>,
     worker: u32,
@@ -326,17 +326,17 @@ fn makes_frame<B: SharedBoard, J: Naming, G: Gate, R: Wait>(
 }
 
 /// Retries until every fork outward of this one has been split.
-fn splits_at_last<B: SharedBoard, J: Naming, G: Gate, R: Threads + Wait + Sync>(
+fn wait_for_split<B: SharedBoard, J: Naming, G: Gate, R: Threads + Wait + Sync>(
     rt: &R,
     common: &Common<'_, B, J, G>,
     now: &mut Running<B, J>,
 ) {
     for _ in rt.forever() {
-        looks(&common.scene, now);
+        check_stop(&common.scene, now);
         let Mode::Waits = now.mode else {
             return;
         };
-        if splits(rt, &common.scene, now) {
+        if try_split(rt, &common.scene, now) {
             return;
         }
         thread::yield_now();

@@ -9,7 +9,7 @@ ghost use Rattle.cw_pool.specs.Ends.{IsWorked};
 ghost use Rattle.cw_pool.specs.Tasks.{IsRun};
 
 use crate::boxes::{Task, TaskBox, empty_box};
-use crate::crew::{Crew, all_work, crew_of};
+use crate::crew::{Crew, make_workers, run_workers};
 use crate::frames::Frames;
 use crate::worker::{Common, never};
 use crate::{Base, Ended, Memo, Mode, Naming, Running, Scene};
@@ -56,7 +56,7 @@ fn make_ready<B: SharedBoard, J: Naming>(
     source: Source<Memo<B::Token>, J>,
 ) -> Result<Ready<B, J>, OutOfMemory> {
     Ok(Ready {
-        crew: crew_of(alloc, workers, pairs, source)?,
+        crew: make_workers(alloc, workers, pairs, source)?,
         frames: all_frames(alloc, workers, strands)?,
         home: empty_box(alloc)?,
     })
@@ -87,7 +87,7 @@ type Whole<B> = (<B as SharedBoard>::Token, bool);
 
 /// Ends a run that ran out of memory before any strand began.
 #[tactic(auto, using(crate::proofs::Tasks::Worked::none_worked))]
-fn never_begins<B: SharedBoard>(board: &B, root: B::Token) -> Whole<B>
+fn halt_before_start<B: SharedBoard>(board: &B, root: B::Token) -> Whole<B>
     requires { B.of root ≡ root_token }
     ensures worked { (job : Job) → IsWorked job (B.of result.0) }
     ensures whole { IsTrue result.1 → (B.of result.0).told ≡ false }
@@ -100,7 +100,7 @@ fn never_begins<B: SharedBoard>(board: &B, root: B::Token) -> Whole<B>
 
 /// Asks a last time whether some strand has stopped.
 #[tactic(auto, using(crate::proofs::Tasks::Worked::still_worked, crate::proofs::Tasks::Worked::still_untold))]
-fn last_look<B: SharedBoard, J: Naming>(board: &B, ended: Ended<B, J>) -> Whole<B>
+fn check_end<B: SharedBoard, J: Naming>(board: &B, ended: Ended<B, J>) -> Whole<B>
     ensures worked { IsWorked J.job (B.of result.0) }
     ensures whole { IsTrue result.1 → (B.of result.0).told ≡ false }
 {
@@ -132,7 +132,7 @@ fn work_in<'x, B: SharedBoard, J: Naming, G: Gate, R: Threads + Wait + Sync>(
 {
     let Ok(ready) = make_ready::<B, J>(scene.alloc, workers, strands, scene.pairs, source) else {
         drop(body);
-        return never_begins(scene.board, root);
+        return halt_before_start(scene.board, root);
     };
     let Ready { crew, frames, home } = ready;
     let now = main_strand::<B, J>(scene.alloc, root, body);
@@ -144,12 +144,12 @@ fn work_in<'x, B: SharedBoard, J: Naming, G: Gate, R: Threads + Wait + Sync>(
         end: Mutex::new(None),
         over: AtomicU64::new(0),
     };
-    all_work(rt, &common, crew, Task { home, now });
+    run_workers(rt, &common, crew, Task { home, now });
     let Common { frames, end, .. } = common;
     drop(frames);
     let end = end.into_inner();
     match end {
-        Some(ended) => last_look(board, ended),
+        Some(ended) => check_end(board, ended),
         None => {
             drop(end);
             never(rt)
@@ -181,7 +181,7 @@ fn work_named<'x, B: SharedBoard, J: Naming, G: Gate, R: Threads + Wait + Sync>(
 {
     let (pairs, source) = opened.named::<J>();
     let Ok(body) = Body::start(alloc, program, words, limits) else {
-        return never_begins(board, root);
+        return halt_before_start(board, root);
     };
     let scene = Scene {
         alloc,
@@ -214,7 +214,7 @@ pub(crate) fn work_whole<'x, B: SharedBoard, G: Gate, R: Threads + Wait + Sync>(
     ensures whole { IsTrue result.1 → (B.of result.0).told ≡ false }
 {
     let Ok(opened) = Opened::new(alloc) else {
-        return never_begins(board, root);
+        return halt_before_start(board, root);
     };
     let workers = workers.max(1);
     work_named::<B, Brand, G, R>(

@@ -10,7 +10,7 @@ ghost use Rattle.cw_record.specs.declared.checking.Checked.TheVariants.{Disagree
 ghost use Rattle.cw_record.specs.Checking.{IsCheckOf, difference, first_difference, other_variant, variant};
 
 use crate::order::ending_strand;
-use crate::replaying::does_all;
+use crate::replaying::is_followed;
 use crate::{Record, RecordEnd, order_of};
 use cw_base::OutOfMemory;
 use cw_job::{first_memory, value_at};
@@ -46,7 +46,7 @@ pub fn check(alloc: Global, kept: &Record) -> Result<Checked, OutOfMemory>
         kept.limits,
         &kept.order,
     )?;
-    let agrees = replays(alloc, kept, &end);
+    let agrees = is_replayed(alloc, kept, &end);
     match agrees {
         Ok(true) => {
             drop(end);
@@ -65,14 +65,14 @@ pub fn check(alloc: Global, kept: &Record) -> Result<Checked, OutOfMemory>
 }
 
 /// Returns whether a record replays, given the machine's end under its order.
-fn replays(alloc: Global, kept: &Record, end: &SerialEnd) -> Result<bool, OutOfMemory>
+fn is_replayed(alloc: Global, kept: &Record, end: &SerialEnd) -> Result<bool, OutOfMemory>
     requires words { TakesWords kept.now.program (length kept.now.words) }
     requires end { end.now ≡ end_under (job_of_record kept.now) kept.now.order }
     ensures { IfOk result (λ b. IsTrue b ↔ IsReplayed kept.now) }
 {
     // a hint to the prover: the root is a strand, and each other node has a smaller parent
     let _ = kept.tree.nodes();
-    if !names_strand(&kept.tree, &kept.end) || !is_same_end(&kept.end, &kept.order, end) {
+    if !has_named_strand(&kept.tree, &kept.end) || !is_same_end(&kept.end, &kept.order, end) {
         return Ok(false);
     }
     let order = order_of(
@@ -85,11 +85,11 @@ fn replays(alloc: Global, kept: &Record, end: &SerialEnd) -> Result<bool, OutOfM
     if !same_picks(&kept.order, &order) {
         return Ok(false);
     }
-    does_all(alloc, kept)
+    is_followed(alloc, kept)
 }
 
 /// Returns whether the strand that an end names is a strand of the tree.
-fn names_strand(tree: &Tree, end: &RecordEnd) -> bool
+fn has_named_strand(tree: &Tree, end: &RecordEnd) -> bool
     ensures { result ≡ is_strand tree.now (ending_strand end.now) }
 {
     let strand = ending_strand(end);
@@ -165,10 +165,10 @@ fn difference(cells: u32, kept: &RecordEnd, end: &SerialEnd) -> Result<Checked, 
             let Ok(cell) = u32::try_from(place) else {
                 return Err(OutOfMemory);
             };
-            return Ok(told(cell, place, memory.as_slice(), values.as_slice()));
+            return Ok(disagreement(cell, place, memory.as_slice(), values.as_slice()));
         }
         if let Some(place) = first_difference(outputs.as_slice(), shown.as_slice()) {
-            return Ok(told(cells, place, outputs.as_slice(), shown.as_slice()));
+            return Ok(disagreement(cells, place, outputs.as_slice(), shown.as_slice()));
         }
     }
     Ok(Checked::Disagree {
@@ -179,7 +179,7 @@ fn difference(cells: u32, kept: &RecordEnd, end: &SerialEnd) -> Result<Checked, 
 }
 
 /// Returns the values at position `place`, at which two lists differ, as a difference at `cell`.
-fn told(cell: u32, place: usize, kept: &[i64], replayed: &[i64]) -> Checked
+fn disagreement(cell: u32, place: usize, kept: &[i64], replayed: &[i64]) -> Checked
     ensures { result ≡ Disagree cell (value_at kept.now place) (value_at replayed.now place) }
 {
     Checked::Disagree {

@@ -76,7 +76,7 @@ impl Drawing {
     }
 
     /// Draws a read of `cell`, which gave `value`.
-    pub(crate) fn reads(&mut self, cell: u32, value: i64) -> Result<(), OutOfMemory>
+    pub(crate) fn add_read(&mut self, cell: u32, value: i64) -> Result<(), OutOfMemory>
         requires { self.old.place < length self.old.tree }
         ensures { OnOk result (drawn self.new ≡ after_read cell value (drawn self.old)) }
     {
@@ -85,7 +85,7 @@ impl Drawing {
     }
 
     /// Draws a write of `value` to `cell`, which had the value `old`.
-    pub(crate) fn writes(&mut self, cell: u32, value: i64, old: i64) -> Result<(), OutOfMemory>
+    pub(crate) fn add_write(&mut self, cell: u32, value: i64, old: i64) -> Result<(), OutOfMemory>
         requires { self.old.place < length self.old.tree }
         ensures { OnOk result (drawn self.new ≡ after_write cell value old (drawn self.old)) }
     {
@@ -94,7 +94,7 @@ impl Drawing {
     }
 
     /// Draws an output.
-    pub(crate) fn outputs(&mut self, value: i64) -> Result<(), OutOfMemory>
+    pub(crate) fn add_output(&mut self, value: i64) -> Result<(), OutOfMemory>
         requires { self.old.place < length self.old.tree }
         ensures { OnOk result (drawn self.new ≡ after_node (Out value) (drawn self.old)) }
     {
@@ -103,7 +103,7 @@ impl Drawing {
     }
 
     /// Draws that a block is given up, and that `back` is what is put back.
-    pub(crate) fn cancels(&mut self, alloc: Global, back: &Seq<Back>) -> Result<(), OutOfMemory>
+    pub(crate) fn add_cancel(&mut self, alloc: Global, back: &Seq<Back>) -> Result<(), OutOfMemory>
         requires { self.old.place < length self.old.tree }
         ensures { OnOk result (drawn self.new ≡ after_node (Cancel back.now) (drawn self.old)) }
     {
@@ -113,7 +113,7 @@ impl Drawing {
     }
 
     /// Draws the begin of a block. The next node goes into it.
-    pub(crate) fn begins(&mut self) -> Result<(), OutOfMemory>
+    pub(crate) fn begin_block(&mut self) -> Result<(), OutOfMemory>
         requires { self.old.place < length self.old.tree }
         ensures { OnOk result (drawn self.new ≡ after_begin (drawn self.old)) }
     {
@@ -123,7 +123,7 @@ impl Drawing {
     }
 
     /// Draws the end of the block at the place, which is committed.
-    pub(crate) fn ends(&mut self) -> Result<(), OutOfMemory>
+    pub(crate) fn end_block(&mut self) -> Result<(), OutOfMemory>
         requires { IsTrue (is_block self.old.tree self.old.place) }
         ensures { OnOk result (drawn self.new ≡ after_end (drawn self.old)) }
     {
@@ -135,18 +135,18 @@ impl Drawing {
     }
 
     /// Draws a fork. The next node goes into its left strand. Returns the node of the fork.
-    pub(crate) fn forks(&mut self) -> Result<u32, OutOfMemory>
+    pub(crate) fn add_fork(&mut self) -> Result<u32, OutOfMemory>
         requires { self.old.place < length self.old.tree }
         ensures fork { IfOk result (λ f. f ≡ length self.old.tree) }
         ensures drawn { OnOk result (drawn self.new ≡ after_fork (drawn self.old)) }
     {
         let fork = self.add(Kind::Fork)?;
-        self.starts(fork)?;
+        self.start_strand(fork)?;
         Ok(fork)
     }
 
     /// Draws the start of a strand of `fork`. The next node goes into it.
-    pub(crate) fn starts(&mut self, fork: u32) -> Result<(), OutOfMemory>
+    pub(crate) fn start_strand(&mut self, fork: u32) -> Result<(), OutOfMemory>
         requires { fork < length self.old.tree }
         ensures { OnOk result (drawn self.new ≡ after_start fork (drawn self.old)) }
     {
@@ -155,7 +155,7 @@ impl Drawing {
     }
 
     /// Draws that both strands of `fork` have ended. The next node goes after it.
-    pub(crate) fn joins(&mut self, fork: u32)
+    pub(crate) fn join_fork(&mut self, fork: u32)
         requires { fork < length self.old.tree }
         ensures { drawn self.new ≡ after_join fork (drawn self.old) }
     {

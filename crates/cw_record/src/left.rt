@@ -15,7 +15,7 @@ use std::alloc::Global;
 
 /// Returns how a closed run ended: as it was stopped; otherwise its moves were spent; otherwise it finished. What it left is filled
 /// in later: the order of a run that finished does not depend on it.
-pub(crate) fn end_told(alloc: Global, closed: &Closed, spent: bool) -> RecordEnd
+pub(crate) fn end_of_run(alloc: Global, closed: &Closed, spent: bool) -> RecordEnd
     requires { HasRecord closed.now.tree closed.now.halt }
     ensures { result ≡ end_after closed.now.halt spent [] [] }
 {

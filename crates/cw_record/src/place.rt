@@ -104,7 +104,7 @@ fn place_of_budget(
     ensures { result
         ≡ option_map_or (place_of_refused tree.now) (telling tree.now conflicts.now budget strand) 0 }
 {
-    match told_by(tree, strands, conflicts, budget, strand) {
+    match find_telling(tree, strands, conflicts, budget, strand) {
         Some(conflict) => place_of_refused(tree, conflict),
         None => 0,
     }
@@ -121,11 +121,11 @@ pub(crate) fn telling<'c>(
     ensures { IfOk result (λ found. option_map (λ c. c.now) found ≡ telling tree.now conflicts.now budget strand) }
 {
     let strands = strands(alloc, tree)?;
-    Ok(told_by(tree, strands.as_slice(), conflicts, budget, strand))
+    Ok(find_telling(tree, strands.as_slice(), conflicts, budget, strand))
 }
 
 // Returns the same, given the strand of each node.
-fn told_by<'c>(
+fn find_telling<'c>(
     tree: &Tree,
     strands: &[u32],
     conflicts: &'c [Conflict],

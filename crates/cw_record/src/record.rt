@@ -13,7 +13,7 @@ ghost use Rattle.cw_record.specs.Order.{order_of};
 ghost use Rattle.cw_record.specs.Records.{BlocksEnded, HasEnded, HasItsOutputs, IsCoherentRun, IsReplayed, IsDepthFirst, IsNumberedDepthFirst};
 
 use crate::items::items;
-use crate::left::{end_left, end_told};
+use crate::left::{end_left, end_of_run};
 use crate::order::order_through;
 use crate::worker::Worker;
 use crate::{RecordEnd, order_of};
@@ -132,7 +132,7 @@ pub fn build(
 {
     // a hint to the prover: the root is a strand
     let _ = closed.tree.nodes();
-    let told = end_told(alloc, &closed, spent);
+    let told = end_of_run(alloc, &closed, spent);
     let conflicts = closed.conflicts.as_slice();
     let items = match items(alloc, &closed.tree, conflicts, limits.aborts, &told) {
         Ok(items) => items,

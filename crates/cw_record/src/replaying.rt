@@ -24,7 +24,7 @@ use std::alloc::Global;
 
 /// Returns whether the machine does at each pick what the tree has there, and whether a strand that spent its budget then is at
 /// what was refused.
-pub(crate) fn does_all(alloc: Global, kept: &Record) -> Result<bool, OutOfMemory>
+pub(crate) fn is_followed(alloc: Global, kept: &Record) -> Result<bool, OutOfMemory>
     requires words { TakesWords kept.now.program (length kept.now.words) }
     requires strand { IsTrue (is_strand kept.now.tree (ending_strand kept.now.end)) }
     requires order { kept.now.order ≡ order_of kept.now.tree kept.now.conflicts kept.now.limits.aborts kept.now.end }

@@ -128,7 +128,7 @@ impl<'a> Worker<'a> {
                     }
                 },
                 Want::Sync | Want::Done => match worker.branches.pop() {
-                    None => return Ok(worker.finished()),
+                    None => return Ok(worker.finish()),
                     Some(Branch::Left { fork, right }) => match worker.turn(fork, right) {
                         Ok(_) => {}
                         Err(fault) => {
@@ -144,7 +144,7 @@ impl<'a> Worker<'a> {
                         }
                     },
                 },
-                Want::Fault(kind) => return worker.faulted(kind),
+                Want::Fault(kind) => return worker.stop_at_fault(kind),
                 Want::Load(_)
                 | Want::Store(..)
                 | Want::Out(_)
@@ -209,7 +209,7 @@ impl<'a> Worker<'a> {
         match self.strand.want() {
             Want::Load(element) => {
                 let value = value_at(&self.memory, element as usize);
-                self.drawing.reads(element, value)?;
+                self.drawing.add_read(element, value)?;
                 return Ok(Given::Value(value));
             }
             Want::Store(element, value) => {
@@ -217,19 +217,19 @@ impl<'a> Worker<'a> {
                 if let Some(held) = self.memory.get_mut(element as usize) {
                     *held = value;
                 }
-                self.drawing.writes(element, value, old)?;
+                self.drawing.add_write(element, value, old)?;
             }
             Want::Out(value) => {
                 self.outputs.push(value)?;
-                self.drawing.outputs(value)?;
+                self.drawing.add_output(value)?;
             }
             Want::Cancel => {
                 let back = self.undo.given_up(alloc, &self.memory)?;
-                self.drawing.cancels(alloc, &back)?;
+                self.drawing.add_cancel(alloc, &back)?;
                 return Ok(Given::Back(back));
             }
-            Want::Begin => self.drawing.begins()?,
-            Want::End => self.drawing.ends()?,
+            Want::Begin => self.drawing.begin_block()?,
+            Want::End => self.drawing.end_block()?,
             Want::Fork | Want::Sync | Want::Done | Want::Fault(_) => unreachable!(),
         }
         Ok(Given::Nothing)
@@ -247,7 +247,7 @@ impl<'a> Worker<'a> {
             ((law_of_worker self.old).right (state_of self.old.strand))) }
         ensures stands { OnOk result (AllBranchesStand self.old.task.program.now self.old.branches → AllStand self.new) }
     {
-        let fork = self.drawing.forks()?;
+        let fork = self.drawing.add_fork()?;
         let left = self.strand.fork(self.task.program)?;
         let right = std::mem::replace(&mut self.strand, left);
         self.branches.push(Branch::Left { fork, right })
@@ -261,7 +261,7 @@ impl<'a> Worker<'a> {
         ensures strand { OnOk result (self.new.strand ≡ right) }
         ensures branches { OnOk result (self.new.branches ≡ OnRight fork self.old.strand ∷ self.old.branches) }
     {
-        match self.drawing.starts(fork) {
+        match self.drawing.start_strand(fork) {
             Ok(_) => {}
             Err(fault) => {
                 drop(right);
@@ -283,12 +283,12 @@ impl<'a> Worker<'a> {
             ≡ (law_of_worker self.old).joined (state_of self.old.strand) (state_of left)) }
         ensures stands { OnOk result (IsOf self.old.task.program.now self.new.strand) }
     {
-        self.drawing.joins(fork);
+        self.drawing.join_fork(fork);
         self.strand.join(left, self.task.program)
     }
 
     /// Returns the run, once main has ended.
-    fn finished(self) -> Run
+    fn finish(self) -> Run
         ensures drawing { result.drawing ≡ self.entry.drawing }
         ensures end { result.end ≡ ending.Finished self.entry.memory.items self.entry.outputs.items }
     {
@@ -305,7 +305,7 @@ impl<'a> Worker<'a> {
     }
 
     /// Returns the run, once the strand is at a fault. Right strands that have yet to start are in the tree, too.
-    fn faulted(self, kind: FaultKind) -> Result<Run, OutOfMemory>
+    fn stop_at_fault(self, kind: FaultKind) -> Result<Run, OutOfMemory>
         requires there { self.drawing.place < length self.drawing.tree }
         requires forks { All (λ f. f < length self.drawing.tree) (unstarted self.branches) }
         ensures tree { IfOk result (λ r. r.drawing.tree
@@ -325,7 +325,7 @@ impl<'a> Worker<'a> {
             match branch {
                 Branch::Left { fork, right } => {
                     drop(right);
-                    drawing.starts(fork)?
+                    drawing.start_strand(fork)?
                 }
                 Branch::Right { left, .. } => drop(left),
             }

@@ -19,7 +19,7 @@ use Rattle.cw_job.specs.Jobs.{Job, job_of_task}
 use Rattle.cw_job.specs.Room.Strands.{StrandState, strands_of_job, state_of, IsOf}
 use Rattle.cw_job.specs.Room.Saves.{IsSavedOf, StandsAs}
 use Rattle.cw_sim.specs.Workers.{Simulation, left_node, right_node, tree, worker, changed_at, first_simulation}
-use Rattle.cw_sim.specs.Moves.{answers}
+use Rattle.cw_sim.specs.Moves.{answer_want}
 use Rattle.cw_sim.specs.Runs.{simulation_of}
 use Rattle.cw_sim.specs.Kept.{is_current, AreWorkers, CoreGoesOn}
 use Rattle.cw_sim.specs.HasWants.{HasWants}
@@ -122,7 +122,7 @@ pub record MayAnswer (c : Driver) (x : ℕ) (z : Seen) : Type 0 where
   pub alive : goes_back z.m.core.machine x ≡ false
 
 abbrev pub answered : ℕ → Given → Seen → Seen
-answered x given z = record z { m = answers (law_of z) x given z.m; there = changed_at x ((law_of z).answer (z.m.at x) given) z.there }
+answered x given z = record z { m = answer_want (law_of z) x given z.m; there = changed_at x ((law_of z).answer (z.m.at x) given) z.there }
 
 -- worker w runs strand x, which may fork
 pub record MayFork (c : Driver) (w x : ℕ) (z : Seen) : Type 0 where

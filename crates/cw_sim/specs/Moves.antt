@@ -40,13 +40,13 @@ module _ {A : Type 0} where
   others m w = map (λ i. (w + suc i) % length m.workers) (below (length m.workers - 1))
 
   -- Worker w takes fork f from worker v. The fork is split, and w runs its right strand.
-  abbrev pub takes : (w v f : ℕ) → List ℕ → Simulation A → Simulation A
-  takes w v f rest m = with_run w (Some (right_node f)) (with_worker v (record (worker m v) { deque = rest }) (does (event.Split f) m))
+  abbrev pub take_fork : (w v f : ℕ) → List ℕ → Simulation A → Simulation A
+  take_fork w v f rest m = with_run w (Some (right_node f)) (with_worker v (record (worker m v) { deque = rest }) (does (event.Split f) m))
 
   -- worker w takes the oldest fork of the first of these workers whose deque is not empty; if there is none, nothing happens
-  abbrev pub steals : ℕ → List ℕ → Simulation A → Simulation A
-  steals w [] m = m
-  steals w (v ∷ vs) m = elim (worker m v).deque [ [] ↦ steals w vs m | f ∷ fs ↦ takes w v f fs m ]
+  abbrev pub steal : ℕ → List ℕ → Simulation A → Simulation A
+  steal w [] m = m
+  steal w (v ∷ vs) m = elim (worker m v).deque [ [] ↦ steal w vs m | f ∷ fs ↦ take_fork w v f fs m ]
 
   -- ## What follows a finished strand, in the same move
 
@@ -58,93 +58,93 @@ module _ {A : Type 0} where
 
   module _ (s : Strands A) where
     -- both strands of fork f have finished: they join, and worker w goes on with the strand that forked
-    abbrev pub joins : (w f : ℕ) → Simulation A → Simulation A
-    joins w f m =
+    abbrev pub join_strands : (w f : ℕ) → Simulation A → Simulation A
+    join_strands w f m =
         let p = strand_of (tree m) f in
         with_run w (Some p) (with_strand p (s.joined (m.at (right_node f)) (m.at (left_node f))) (does (event.Join f) m))
 
     -- The left strand of fork f has finished, and its right one waits in worker w. After a live left strand, w goes on with the
     -- right one. After a dead one, the right one finishes dead, too, and they join.
-    abbrev pub goes_to_right : (w f : ℕ) → (dead : Bool) → Simulation A → Simulation A
-    goes_to_right w f false m = with_run w (Some (right_node f)) (takes_back w f m)
-    goes_to_right w f true m = joins w f (does (event.Finish (right_node f) true) (takes_back w f m))
+    abbrev pub go_to_right : (w f : ℕ) → (dead : Bool) → Simulation A → Simulation A
+    go_to_right w f false m = with_run w (Some (right_node f)) (takes_back w f m)
+    go_to_right w f true m = join_strands w f (does (event.Finish (right_node f) true) (takes_back w f m))
 
     -- one strand of fork f has finished: they join if the other strand has, too; otherwise worker w is idle
-    abbrev pub joins_or_idles : (w f : ℕ) → (both : Bool) → Simulation A → Simulation A
-    joins_or_idles w f false m = with_run w None m
-    joins_or_idles w f true m = joins w f m
+    abbrev pub join_or_idle : (w f : ℕ) → (both : Bool) → Simulation A → Simulation A
+    join_or_idle w f false m = with_run w None m
+    join_or_idle w f true m = join_strands w f m
 
     -- after main nothing; after the left strand of an unsplit fork its right one; otherwise a join, or an idle worker
-    abbrev pub follows : (w x : ℕ) → (dead : Bool) → Simulation A → Simulation A
-    follows w zero dead m = with_run w None m
-    follows w (suc x) dead m =
+    abbrev pub follow_up : (w x : ℕ) → (dead : Bool) → Simulation A → Simulation A
+    follow_up w zero dead m = with_run w None m
+    follow_up w (suc x) dead m =
         let f = parent_of (tree m) (suc x) in
         if (suc x == left_node f) && not (is_split m.core f)
-        then goes_to_right w f dead m
-        else joins_or_idles w f (has_finished m.core.machine (left_node f) && has_finished m.core.machine (right_node f)) m
+        then go_to_right w f dead m
+        else join_or_idle w f (has_finished m.core.machine (left_node f) && has_finished m.core.machine (right_node f)) m
 
-    abbrev pub finishes : (w x : ℕ) → (dead : Bool) → Simulation A → Simulation A
-    finishes w x dead m = follows w x dead (does (event.Finish x dead) m)
+    abbrev pub finish_strand : (w x : ℕ) → (dead : Bool) → Simulation A → Simulation A
+    finish_strand w x dead m = follow_up w x dead (does (event.Finish x dead) m)
 
     -- ## A strand that is dying
 
     -- strand x rolls back the innermost pending block begun in it, and is at its begin again; if there is none, it finishes dead
-    abbrev pub dies : (w x : ℕ) → Simulation A → Simulation A
-    dies w x m =
+    abbrev pub die : (w x : ℕ) → Simulation A → Simulation A
+    die w x m =
         if in_block m.core.machine x
         then with_strand x (m.saved (place (tree m) x)) (does (event.Roll x) m)
-        else finishes w x true m
+        else finish_strand w x true m
 
     -- ## Any other strand does what it wants
 
-    abbrev pub answers : ℕ → Given → Simulation A → Simulation A
-    answers x given m = with_strand x (s.answer (m.at x) given) m
+    abbrev pub answer_want : ℕ → Given → Simulation A → Simulation A
+    answer_want x given m = with_strand x (s.answer (m.at x) given) m
 
     -- if the last attempt of a block or an access was refused, the run stops
-    abbrev pub stops_if_spent : Simulation A → Simulation A
-    stops_if_spent m = option_map_or (λ x. does (event.Stop (halt.Budget x)) m) (spent m.core) m
+    abbrev pub stop_if_spent : Simulation A → Simulation A
+    stop_if_spent m = option_map_or (λ x. does (event.Stop (halt.Budget x)) m) (spent m.core) m
 
     -- an access that was made is answered; a strand whose access was refused stays where it is
     abbrev pub meets_cell : ℕ → Option ℤ → Reply → Simulation A → Simulation A
-    meets_cell x write (reply.Value v) m = answers x (given_for write v) m
-    meets_cell x write refused m = stops_if_spent m
+    meets_cell x write (reply.Value v) m = answer_want x (given_for write v) m
+    meets_cell x write refused m = stop_if_spent m
 
-    abbrev pub accesses : (x c : ℕ) → Option ℤ → Simulation A → Simulation A
-    accesses x c write m = meets_cell x write (reply_to m.core (event.Access x c write)) (does (event.Access x c write) m)
+    abbrev pub access_cell : (x c : ℕ) → Option ℤ → Simulation A → Simulation A
+    access_cell x c write m = meets_cell x write (reply_to m.core (event.Access x c write)) (does (event.Access x c write) m)
 
     -- the block is the next node
-    abbrev pub begins : ℕ → Simulation A → Simulation A
-    begins x m = answers x Nothing (record (does (event.Begin x) m) { saved = changed_at (length (tree m)) (m.at x) m.saved })
+    abbrev pub begin_block : ℕ → Simulation A → Simulation A
+    begin_block x m = answer_want x Nothing (record (does (event.Begin x) m) { saved = changed_at (length (tree m)) (m.at x) m.saved })
 
     -- The block is given up. The strand learns what to put back. It wants that next, each cell by a write of its own, and then the
     -- block's end.
-    abbrev pub gives_up : ℕ → Simulation A → Simulation A
-    gives_up x m = answers x (Back (puts_back m.core.machine x (next m.core))) (does (event.Cancel x) m)
+    abbrev pub give_up : ℕ → Simulation A → Simulation A
+    give_up x m = answer_want x (Back (puts_back m.core.machine x (next m.core))) (does (event.Cancel x) m)
 
     -- the fork is the next node; worker w goes on with its left strand
-    abbrev pub forks : (w x : ℕ) → Simulation A → Simulation A
-    forks w x m =
+    abbrev pub fork_strand : (w x : ℕ) → Simulation A → Simulation A
+    fork_strand w x m =
         let f = length (tree m) in
         let n = with_strand (left_node f) (s.left (m.at x)) (with_strand (right_node f) (s.right (m.at x)) (does (event.Fork x) m)) in
         with_worker w (record (with_fork (may_fork m.core) f (worker m w)) { runs = Some (left_node f) }) n
 
-    abbrev pub acts : (w x : ℕ) → Want → Simulation A → Simulation A
-    acts w x (want.Load c) m = accesses x c None m
-    acts w x (want.Store c v) m = accesses x c (Some v) m
-    acts w x (want.Out v) m = answers x Nothing (does (event.Out x v) m)
-    acts w x want.Begin m = begins x m
-    acts w x want.End m = answers x Nothing (does (event.Commit x) m)
-    acts w x want.Fork m = forks w x m
-    acts w x want.Cancel m = gives_up x m
-    acts w x want.Sync m = finishes w x false m
-    acts w x want.Done m = finishes w x false m
-    acts w x (want.Fault kind) m = does (event.Stop (halt.Fault x kind)) m
+    abbrev pub do_want : (w x : ℕ) → Want → Simulation A → Simulation A
+    do_want w x (want.Load c) m = access_cell x c None m
+    do_want w x (want.Store c v) m = access_cell x c (Some v) m
+    do_want w x (want.Out v) m = answer_want x Nothing (does (event.Out x v) m)
+    do_want w x want.Begin m = begin_block x m
+    do_want w x want.End m = answer_want x Nothing (does (event.Commit x) m)
+    do_want w x want.Fork m = fork_strand w x m
+    do_want w x want.Cancel m = give_up x m
+    do_want w x want.Sync m = finish_strand w x false m
+    do_want w x want.Done m = finish_strand w x false m
+    do_want w x (want.Fault kind) m = does (event.Stop (halt.Fault x kind)) m
 
     -- ## The run
 
     -- a move of worker w
     abbrev pub move : ℕ → Simulation A → Simulation A
-    move w m = elim (worker m w).runs [ None ↦ steals w (others m w) m | Some x ↦ if is_dying m.core.machine x then dies w x m else acts w x (s.want (m.at x)) m ]
+    move w m = elim (worker m w).runs [ None ↦ steal w (others m w) m | Some x ↦ if is_dying m.core.machine x then die w x m else do_want w x (s.want (m.at x)) m ]
 
     -- at most k moves from move n on; none is made once the run is over
     abbrev pub after_moves : (turn : ℕ → ℕ) → (k n : ℕ) → Simulation A → Simulation A

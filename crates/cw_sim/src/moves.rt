@@ -4,7 +4,7 @@ ghost use Rattle.cw_strand.specs.declared.want.Given.TheVariants as given;
 ghost use Rattle.cw_strand.specs.Programs.{IsCompiled};
 ghost use Rattle.cw_job.specs.Jobs.{TakesWords, job_of_task};
 ghost use Rattle.cw_sim.specs.Workers.{left_node, right_node, tree, with_strand, worker};
-ghost use Rattle.cw_sim.specs.Moves.{accesses, acts, answers, begins, dies, does, finishes, follows, forks, gives_up, given_for, is_run_over, joins, joins_or_idles, move, others, steals, stops_if_spent, takes, goes_to_right};
+ghost use Rattle.cw_sim.specs.Moves.{access_cell, do_want, answer_want, begin_block, die, does, finish_strand, follow_up, fork_strand, give_up, given_for, is_run_over, join_strands, join_or_idle, move, others, steal, stop_if_spent, take_fork, go_to_right};
 ghost use Rattle.cw_sim.specs.Runs.{closed_of, simulation_of};
 ghost use Rattle.cw_sim.specs.Turns.{ListsWorkers};
 ghost use Rattle.cw_open.specs.Machine.{has_finished};
@@ -14,7 +14,9 @@ ghost use Rattle.cw_core.specs.Events.{fits};
 
 use crate::by_node::ByNode;
 use crate::turns::Turns;
-use crate::worker::{Worker, opening, robbed, take_newest, take_oldest, with_fork, with_run};
+use crate::worker::{
+    Worker, opening, take_newest, take_oldest, with_fork, with_run, worker_to_rob,
+};
 use cw_base::OutOfMemory;
 use cw_code::{Limits, Program};
 use cw_core::{Core, Event, Reply};
@@ -100,9 +102,9 @@ impl<'a> Driver<'a> {
     }
 
     /// Takes the oldest fork of worker `v` for worker `w`, which is idle. The fork is split, and `w` runs its right strand.
-    fn takes(&mut self, w: u32, v: usize) -> Result<(), OutOfMemory>
+    fn take_fork(&mut self, w: u32, v: usize) -> Result<(), OutOfMemory>
         requires { (z : Seen) × MayTake self.old w v z }
-        ensures { OnOk result ((z : Seen) → MayTake self.old w v z → (f : ℕ) (fs : List ℕ) → (worker z.m v).deque ≡ f ∷ fs → Comes self.new z (takes w v f fs z.m)) }
+        ensures { OnOk result ((z : Seen) → MayTake self.old w v z → (f : ℕ) (fs : List ℕ) → (worker z.m v).deque ≡ f ∷ fs → Comes self.new z (take_fork w v f fs z.m)) }
     {
         let Some(fork) = take_oldest(&mut self.workers, v) else {
             unreachable!()
@@ -114,21 +116,21 @@ impl<'a> Driver<'a> {
     }
 
     /// Takes a fork for worker `w`, which is idle, from the next worker that has one.
-    fn steals(&mut self, w: u32) -> Result<(), OutOfMemory>
+    fn steal(&mut self, w: u32) -> Result<(), OutOfMemory>
         requires { (z : Seen) × MayMove self.old w z }
-        ensures { OnOk result ((z : Seen) → MayMove self.old w z → Comes self.new z (steals w (others z.m w) z.m)) }
+        ensures { OnOk result ((z : Seen) → MayMove self.old w z → Comes self.new z (steal w (others z.m w) z.m)) }
     {
-        match robbed(self.workers.as_slice(), w) {
-            Some(v) => self.takes(w, v),
+        match worker_to_rob(self.workers.as_slice(), w) {
+            Some(v) => self.take_fork(w, v),
             None => Ok(()),
         }
     }
 
     /// Joins `fork`, whose strands have both finished. Worker `w` goes on with the strand that forked. If that is dying, so were
     /// they, and it gets the body of the right strand as it is.
-    fn joins(&mut self, w: u32, fork: u32) -> Result<(), OutOfMemory>
+    fn join_strands(&mut self, w: u32, fork: u32) -> Result<(), OutOfMemory>
         requires { (z : Seen) × MayJoin self.old w fork z }
-        ensures { OnOk result ((z : Seen) → MayJoin self.old w fork z → Comes self.new z (joins (law_of z) w fork z.m)) }
+        ensures { OnOk result ((z : Seen) → MayJoin self.old w fork z → Comes self.new z (join_strands (law_of z) w fork z.m)) }
     {
         let parent = self.core.strand_of(fork);
         self.hint();
@@ -160,29 +162,29 @@ impl<'a> Driver<'a> {
 
     /// Goes on from the left strand of `fork`, which has finished, to the right one, which waits in worker `w`. After a live left
     /// strand, `w` goes on with the right one. After a dead one, the right one finishes dead, too, and they join.
-    fn goes_to_right(&mut self, w: u32, fork: u32, dead: bool) -> Result<(), OutOfMemory>
+    fn go_to_right(&mut self, w: u32, fork: u32, dead: bool) -> Result<(), OutOfMemory>
         requires { (z : Seen) × MayTurn self.old w fork dead z }
-        ensures { OnOk result ((z : Seen) → MayTurn self.old w fork dead z → Comes self.new z (goes_to_right (law_of z) w fork dead z.m)) }
+        ensures { OnOk result ((z : Seen) → MayTurn self.old w fork dead z → Comes self.new z (go_to_right (law_of z) w fork dead z.m)) }
     {
         take_newest(&mut self.workers, w, fork);
         self.hint();
         let strand = fork + 2;
         if dead {
             self.core.step(Event::Finish { strand, dead })?;
-            return self.joins(w, fork);
+            return self.join_strands(w, fork);
         }
         with_run(&mut self.workers, w, Some(strand));
         Ok(())
     }
 
     /// Joins `fork`, one strand of which has just finished, if its other strand has finished, too. Otherwise worker `w` is idle.
-    fn joins_or_idles(&mut self, w: u32, fork: u32) -> Result<(), OutOfMemory>
+    fn join_or_idle(&mut self, w: u32, fork: u32) -> Result<(), OutOfMemory>
         requires { (z : Seen) × MayMeet self.old w fork z }
-        ensures { OnOk result ((z : Seen) → MayMeet self.old w fork z → Comes self.new z (joins_or_idles (law_of z) w fork (has_finished z.m.core.machine (left_node fork) && has_finished z.m.core.machine (right_node fork)) z.m)) }
+        ensures { OnOk result ((z : Seen) → MayMeet self.old w fork z → Comes self.new z (join_or_idle (law_of z) w fork (has_finished z.m.core.machine (left_node fork) && has_finished z.m.core.machine (right_node fork)) z.m)) }
     {
         self.hint();
         if self.core.has_finished(fork + 1) && self.core.has_finished(fork + 2) {
-            return self.joins(w, fork);
+            return self.join_strands(w, fork);
         }
         with_run(&mut self.workers, w, None);
         Ok(())
@@ -190,9 +192,9 @@ impl<'a> Driver<'a> {
 
     /// Does what follows a finished strand: after main nothing; after the left strand of an unsplit fork its right strand;
     /// otherwise the join of the fork, if both strands have finished.
-    fn follows(&mut self, w: u32, strand: u32, dead: bool) -> Result<(), OutOfMemory>
+    fn follow_up(&mut self, w: u32, strand: u32, dead: bool) -> Result<(), OutOfMemory>
         requires { (z : Seen) × HasFinished self.old w strand dead z }
-        ensures { OnOk result ((z : Seen) → HasFinished self.old w strand dead z → Comes self.new z (follows (law_of z) w strand dead z.m)) }
+        ensures { OnOk result ((z : Seen) → HasFinished self.old w strand dead z → Comes self.new z (follow_up (law_of z) w strand dead z.m)) }
     {
         if strand == 0 {
             with_run(&mut self.workers, w, None);
@@ -201,22 +203,22 @@ impl<'a> Driver<'a> {
         self.hint();
         let fork = self.core.tree().parent(strand);
         if strand == fork + 1 && !self.core.is_split(fork) {
-            return self.goes_to_right(w, fork, dead);
+            return self.go_to_right(w, fork, dead);
         }
-        self.joins_or_idles(w, fork)
+        self.join_or_idle(w, fork)
     }
 
     /// Finishes `strand`, which worker `w` runs.
-    fn finishes(&mut self, w: u32, strand: u32, dead: bool) -> Result<(), OutOfMemory>
+    fn finish_strand(&mut self, w: u32, strand: u32, dead: bool) -> Result<(), OutOfMemory>
         requires { (z : Seen) × MayFinish self.old w strand dead z }
-        ensures { OnOk result ((z : Seen) → MayFinish self.old w strand dead z → Comes self.new z (finishes (law_of z) w strand dead z.m)) }
+        ensures { OnOk result ((z : Seen) → MayFinish self.old w strand dead z → Comes self.new z (finish_strand (law_of z) w strand dead z.m)) }
     {
         self.core.step(Event::Finish { strand, dead })?;
-        self.follows(w, strand, dead)
+        self.follow_up(w, strand, dead)
     }
 
     /// Rolls back the innermost pending block of a dying strand. The strand is at the begin of the block again.
-    fn rolls(&mut self, strand: u32) -> Result<(), OutOfMemory>
+    fn roll_back(&mut self, strand: u32) -> Result<(), OutOfMemory>
         requires { (z : Seen) × MayRoll self.old strand z }
         ensures { OnOk result ((z : Seen) → MayRoll self.old strand z → Comes self.new z (with_strand strand (z.m.saved (place (tree z.m) strand)) (does (event.Roll strand) z.m))) }
     {
@@ -237,19 +239,19 @@ impl<'a> Driver<'a> {
     }
 
     /// Rolls back a block of a dying strand, or finishes the strand dead if it has no block.
-    fn dies(&mut self, w: u32, strand: u32) -> Result<(), OutOfMemory>
+    fn die(&mut self, w: u32, strand: u32) -> Result<(), OutOfMemory>
         requires { (z : Seen) × MayDie self.old w strand z }
-        ensures { OnOk result ((z : Seen) → MayDie self.old w strand z → Comes self.new z (dies (law_of z) w strand z.m)) }
+        ensures { OnOk result ((z : Seen) → MayDie self.old w strand z → Comes self.new z (die (law_of z) w strand z.m)) }
     {
         if self.core.in_block(strand) {
-            self.rolls(strand)
+            self.roll_back(strand)
         } else {
-            self.finishes(w, strand, true)
+            self.finish_strand(w, strand, true)
         }
     }
 
     /// Answers the want of `strand`, which goes on to its next want.
-    fn answers(&mut self, strand: u32, given: Given) -> Result<(), OutOfMemory>
+    fn answer_want(&mut self, strand: u32, given: Given) -> Result<(), OutOfMemory>
         requires { (z : Seen) × MayAnswer self.old strand z }
         ensures stands { OnOk result ((z : Seen) → MayAnswer self.old strand z → StandsFor self.new (answered strand given z)) }
         ensures saves { self.new.saved ≡ self.old.saved }
@@ -260,7 +262,7 @@ impl<'a> Driver<'a> {
     }
 
     /// Stops the run.
-    fn stops(&mut self, halt: Halt) -> Result<(), OutOfMemory>
+    fn stop_run(&mut self, halt: Halt) -> Result<(), OutOfMemory>
         requires { fits self.old.core (event.Stop halt) ≡ true }
         ensures { OnOk result ((z : Seen) → StandsFor self.old z → StandsFor self.new (record z { m = does (event.Stop halt) z.m })) }
     {
@@ -269,79 +271,79 @@ impl<'a> Driver<'a> {
     }
 
     /// Stops the run if the last attempt of a block or an access was refused.
-    fn stops_if_spent(&mut self) -> Result<(), OutOfMemory>
+    fn stop_if_spent(&mut self) -> Result<(), OutOfMemory>
         requires { self.old.core.halt ≡ None }
-        ensures { OnOk result ((z : Seen) → StandsFor self.old z → StandsFor self.new (record z { m = stops_if_spent (law_of z) z.m })) }
+        ensures { OnOk result ((z : Seen) → StandsFor self.old z → StandsFor self.new (record z { m = stop_if_spent (law_of z) z.m })) }
     {
         match self.core.spent() {
-            Some(strand) => self.stops(Halt::Budget { strand }),
+            Some(strand) => self.stop_run(Halt::Budget { strand }),
             None => Ok(()),
         }
     }
 
     /// Makes an access of `strand` and answers it. If it is refused, the strand stays where it is.
-    fn accesses(&mut self, strand: u32, cell: u32, write: Option<i64>) -> Result<(), OutOfMemory>
+    fn access_cell(&mut self, strand: u32, cell: u32, write: Option<i64>) -> Result<(), OutOfMemory>
         requires { (z : Seen) × MayDo self.old strand (access_of cell write) z }
-        ensures { OnOk result ((z : Seen) → MayDo self.old strand (access_of cell write) z → Comes self.new z (accesses (law_of z) strand cell write z.m)) }
+        ensures { OnOk result ((z : Seen) → MayDo self.old strand (access_of cell write) z → Comes self.new z (access_cell (law_of z) strand cell write z.m)) }
     {
         match self.core.step(Event::Access {
             strand,
             cell,
             write,
         })? {
-            Reply::Value(value) => self.answers(strand, given_for(write, value)),
-            _ => self.stops_if_spent(),
+            Reply::Value(value) => self.answer_want(strand, given_for(write, value)),
+            _ => self.stop_if_spent(),
         }
     }
 
     /// Outputs `value`.
-    fn puts_out(&mut self, strand: u32, value: i64) -> Result<(), OutOfMemory>
+    fn put_out(&mut self, strand: u32, value: i64) -> Result<(), OutOfMemory>
         requires { (z : Seen) × MayDo self.old strand (Want.Out value) z }
-        ensures { OnOk result ((z : Seen) → MayDo self.old strand (Want.Out value) z → Comes self.new z (answers (law_of z) strand given.Nothing (does (event.Out strand value) z.m))) }
+        ensures { OnOk result ((z : Seen) → MayDo self.old strand (Want.Out value) z → Comes self.new z (answer_want (law_of z) strand given.Nothing (does (event.Out strand value) z.m))) }
     {
         self.core.step(Event::Out { strand, value })?;
-        self.answers(strand, Given::Nothing)
+        self.answer_want(strand, Given::Nothing)
     }
 
     /// Begins a block, and saves what its strand needs to go back there.
-    fn begins(&mut self, strand: u32) -> Result<(), OutOfMemory>
+    fn begin_block(&mut self, strand: u32) -> Result<(), OutOfMemory>
         requires { (z : Seen) × MayDo self.old strand Want.Begin z }
-        ensures { OnOk result ((z : Seen) → MayDo self.old strand Want.Begin z → Comes self.new z (begins (law_of z) strand z.m)) }
+        ensures { OnOk result ((z : Seen) → MayDo self.old strand Want.Begin z → Comes self.new z (begin_block (law_of z) strand z.m)) }
     {
         let saved = self.bodies.at(strand).save()?;
         let block = self.next_node();
         self.core.step(Event::Begin { strand })?;
         self.saved.put(block, saved)?;
-        self.answers(strand, Given::Nothing)
+        self.answer_want(strand, Given::Nothing)
     }
 
     /// Ends the innermost block of `strand`.
-    fn ends(&mut self, strand: u32) -> Result<(), OutOfMemory>
+    fn end_block(&mut self, strand: u32) -> Result<(), OutOfMemory>
         requires { (z : Seen) × MayDo self.old strand Want.End z }
-        ensures comes { OnOk result ((z : Seen) → MayDo self.old strand Want.End z → Comes self.new z (answers (law_of z) strand given.Nothing (does (event.Commit strand) z.m))) }
+        ensures comes { OnOk result ((z : Seen) → MayDo self.old strand Want.End z → Comes self.new z (answer_want (law_of z) strand given.Nothing (does (event.Commit strand) z.m))) }
         ensures saves { OnOk result (thing_at self.new.saved (place self.old.core.machine.tree strand) ≡ None) }
     {
         let block = self.core.place(strand);
         let _ = self.saved.take(block);
         self.core.step(Event::Commit { strand })?;
-        self.answers(strand, Given::Nothing)
+        self.answer_want(strand, Given::Nothing)
     }
 
     /// Gives up the innermost block of `strand`, and tells the strand what to put back.
-    fn gives_up(&mut self, strand: u32) -> Result<(), OutOfMemory>
+    fn give_up(&mut self, strand: u32) -> Result<(), OutOfMemory>
         requires { (z : Seen) × MayDo self.old strand Want.Cancel z }
-        ensures { OnOk result ((z : Seen) → MayDo self.old strand Want.Cancel z → Comes self.new z (gives_up (law_of z) strand z.m)) }
+        ensures { OnOk result ((z : Seen) → MayDo self.old strand Want.Cancel z → Comes self.new z (give_up (law_of z) strand z.m)) }
     {
         match self.core.step(Event::Cancel { strand })? {
-            Reply::Back(back) => self.answers(strand, Given::Back(back)),
+            Reply::Back(back) => self.answer_want(strand, Given::Back(back)),
             _ => unreachable!(),
         }
     }
 
     /// Forks `strand`, which worker `w` runs. `w` goes on with the left strand.
-    fn forks(&mut self, w: u32, strand: u32) -> Result<(), OutOfMemory>
+    fn fork_strand(&mut self, w: u32, strand: u32) -> Result<(), OutOfMemory>
         requires { (z : Seen) × MayFork self.old w strand z }
-        ensures { OnOk result ((z : Seen) → MayFork self.old w strand z → Comes self.new z (forks (law_of z) w strand z.m)) }
+        ensures { OnOk result ((z : Seen) → MayFork self.old w strand z → Comes self.new z (fork_strand (law_of z) w strand z.m)) }
     {
         let fork = self.next_node();
         let mut right = self.bodies.take(strand);
@@ -377,40 +379,40 @@ impl<'a> Driver<'a> {
     }
 
     /// Does what `strand` wants. Worker `w` runs that strand.
-    fn acts(&mut self, w: u32, strand: u32, want: Want) -> Result<(), OutOfMemory>
+    fn do_want(&mut self, w: u32, strand: u32, want: Want) -> Result<(), OutOfMemory>
         requires { (z : Seen) × MayAct self.old w strand want z }
-        ensures { OnOk result ((z : Seen) → MayAct self.old w strand want z → Comes self.new z (acts (law_of z) w strand want z.m)) }
+        ensures { OnOk result ((z : Seen) → MayAct self.old w strand want z → Comes self.new z (do_want (law_of z) w strand want z.m)) }
     {
         match want {
-            Want::Load(cell) => self.accesses(strand, cell, None),
-            Want::Store(cell, value) => self.accesses(strand, cell, Some(value)),
-            Want::Out(value) => self.puts_out(strand, value),
-            Want::Begin => self.begins(strand),
-            Want::End => self.ends(strand),
-            Want::Cancel => self.gives_up(strand),
-            Want::Fork => self.forks(w, strand),
-            Want::Sync | Want::Done => self.finishes(w, strand, false),
-            Want::Fault(kind) => self.stops(Halt::Fault { strand, kind }),
+            Want::Load(cell) => self.access_cell(strand, cell, None),
+            Want::Store(cell, value) => self.access_cell(strand, cell, Some(value)),
+            Want::Out(value) => self.put_out(strand, value),
+            Want::Begin => self.begin_block(strand),
+            Want::End => self.end_block(strand),
+            Want::Cancel => self.give_up(strand),
+            Want::Fork => self.fork_strand(w, strand),
+            Want::Sync | Want::Done => self.finish_strand(w, strand, false),
+            Want::Fault(kind) => self.stop_run(Halt::Fault { strand, kind }),
         }
     }
 
     /// Makes a move of worker `w`.
-    fn moves(&mut self, w: u32) -> Result<(), OutOfMemory>
+    fn make_move(&mut self, w: u32) -> Result<(), OutOfMemory>
         requires { (z : Seen) × MayMove self.old w z }
         ensures { OnOk result ((z : Seen) → MayMove self.old w z → Comes self.new z (move (law_of z) w z.m)) }
     {
         let Some(strand) = self.workers[w as usize].runs else {
-            return self.steals(w);
+            return self.steal(w);
         };
         if self.core.is_dying(strand) {
-            return self.dies(w, strand);
+            return self.die(w, strand);
         }
         let want = self.bodies.at(strand).want();
-        self.acts(w, strand, want)
+        self.do_want(w, strand, want)
     }
 
     /// Makes moves until the run is over, at most as many as the limit says.
-    fn runs(&mut self, turns: &mut Turns) -> Result<(), OutOfMemory>
+    fn run(&mut self, turns: &mut Turns) -> Result<(), OutOfMemory>
         requires compiled { IsCompiled self.old.task.program.now }
         requires words { TakesWords self.old.task.program.now (length self.old.task.words.now) }
         requires strands { 0 < self.old.task.limits.strands }
@@ -423,14 +425,14 @@ impl<'a> Driver<'a> {
                 break;
             }
             let w = turns.worker_at(n);
-            self.moves(w)?;
+            self.make_move(w)?;
         }
         Ok(())
     }
 }
 
 /// Returns what the moves of `workers` workers leave, in the turns of a schedule, and whether the moves were used up.
-pub(crate) fn moved(
+pub(crate) fn run_moves(
     alloc: Global,
     task: Task,
     workers: u32,
@@ -447,7 +449,7 @@ pub(crate) fn moved(
 {
     let mut simulation = Driver::opening(alloc, task, workers)?;
     let mut turns = Turns::new(schedule, workers);
-    match simulation.runs(&mut turns) {
+    match simulation.run(&mut turns) {
         Ok(_) => {}
         Err(fault) => {
             drop(simulation);

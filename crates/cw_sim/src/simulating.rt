@@ -8,7 +8,7 @@ ghost use Rattle.cw_sim.specs.Moves.{is_run_over};
 ghost use Rattle.cw_sim.specs.OneWorker.{IsUnrefused};
 ghost use Rattle.cw_sim.specs.Runs.{IsRecordOf, simulation_of};
 
-use crate::moves::moved;
+use crate::moves::run_moves;
 use cw_base::{OutOfMemory, Seq};
 use cw_code::{Limits, Program};
 use cw_io::Schedule;
@@ -50,6 +50,6 @@ pub fn simulate(
         words: words.as_slice(),
         limits,
     };
-    let (closed, spent) = moved(alloc, task, workers, schedule)?;
+    let (closed, spent) = run_moves(alloc, task, workers, schedule)?;
     build(alloc, program, words, limits, closed, spent)
 }

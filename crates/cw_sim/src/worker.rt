@@ -19,7 +19,7 @@ pub(crate) struct Worker {
 ghost use Rattle.cw_sim.specs.WorkersInMemory.{first_with_forks, workers_next, IsLast, without_waiting, workers_of};
 
 /// Returns a worker in which no fork waits.
-fn resting(alloc: Global, runs: Option<u32>) -> Worker
+fn resting_worker(alloc: Global, runs: Option<u32>) -> Worker
     ensures runs { result.runs ≡ runs }
     ensures deque { result.deque.items ≡ [] }
     ensures inline { result.inline.items ≡ [] }
@@ -37,15 +37,15 @@ pub(crate) fn opening(alloc: Global, workers: u32) -> Result<Vec<Worker>, OutOfM
     ensures { IfOk result (λ ws. workers_of ws.items ≡ record idle { runs = Some 0 } ∷ replicate (workers - 1) idle) }
 {
     let mut all = Vec::new(alloc);
-    all.push(resting(alloc, Some(0)))?;
+    all.push(resting_worker(alloc, Some(0)))?;
     for _i in 1..workers {
-        all.push(resting(alloc, None))?;
+        all.push(resting_worker(alloc, None))?;
     }
     Ok(all)
 }
 
 /// Returns the first worker after worker `w`, going round, from which a fork may be taken.
-pub(crate) fn robbed(workers: &[Worker], w: u32) -> Option<usize>
+pub(crate) fn worker_to_rob(workers: &[Worker], w: u32) -> Option<usize>
     requires { w < length workers.now }
     ensures { result ≡ first_with_forks (workers_of workers.now) (workers_next w (length workers.now)) }
 {

@@ -148,7 +148,7 @@ impl Shared {
     }
 
     /// Takes the tier out of its slot, whose lock is held.
-    pub fn tier_out(&self, token: &mut StrandToken) -> Tier
+    pub fn take_tier(&self, token: &mut StrandToken) -> Tier
         requires table { IsTokenOf self.now token.old }
         requires held { (x : _) × Holding token.old (cells_of (key_of self.now)) (slot_of.Tier x) }
         ensures table { IsTokenOf self.now token.new }
@@ -170,7 +170,7 @@ impl Shared {
     }
 
     /// Puts the tier into its slot, whose lock is held.
-    pub fn tier_in(&self, token: &mut StrandToken, tier: Tier)
+    pub fn put_tier(&self, token: &mut StrandToken, tier: Tier)
         requires table { IsTokenOf self.now token.old }
         requires held { (y : _) × Holding token.old (cells_of (key_of self.now)) y }
         ensures table { IsTokenOf self.now token.new }

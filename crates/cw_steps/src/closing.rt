@@ -71,13 +71,13 @@ impl Shared {
         ensures kept { IfErr result (λ e. (e.1.track.room ≡ token.track.room) × (token_of e.1 ≡ token_of token)) }
     {
         let mut token = token;
-        match self.closed(&mut token) {
+        match self.collect(&mut token) {
             Ok(closed) => Ok(closed),
             Err(error) => Err((self, token, error)),
         }
     }
 
-    fn closed(&self, token: &mut StrandToken) -> Result<Closed, OutOfMemory>
+    fn collect(&self, token: &mut StrandToken) -> Result<Closed, OutOfMemory>
         requires { IsTokenOf self.now token.old }
         ensures together { IfOk result (λ c. IsPutTogether (logs (token_of token.old)) (token_of token.old).stop c) }
         ensures journals { IfOk result (λ c. AreFoundJournals (key_of self.now) token.old.seat.me c.journals) }

@@ -15,7 +15,7 @@ impl TableRule<Slot, View, Key> for Law {
     ghost first = { λ _. root_view };
 }
 
-pub(crate) type Board = Table<Slot, View, Key, Law, Global>;
+pub(crate) type BoardTable = Table<Slot, View, Key, Law, Global>;
 
 pub(crate) type Words = atomic_table::Shared<Slot, View, Key, Law>;
 

@@ -113,7 +113,7 @@ impl Shared {
     }
 
     /// Whether the stop flag is set. It is set only once some token has halted.
-    pub fn stopped(&self, token: &mut StrandToken) -> bool
+    pub fn is_stopped(&self, token: &mut StrandToken) -> bool
         requires table { IsTokenOf self.now token.old }
         ensures table { IsTokenOf self.now token.new }
         ensures view { (found : ℕ) × (result ≡ nat_lt 0 found) × (view_of token.new ≡ told_view (places.stop_word (cells_of (key_of self.now))) found (view_of token.old)) }

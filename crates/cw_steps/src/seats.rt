@@ -52,7 +52,7 @@ fn join_as<W: Joining>(
     table.join_seat::<Joins<W>>(seat, ending);
 }
 
-fn kept(own: Option<Stop>, other: Option<Stop>) -> Option<Stop>
+fn first_stop(own: Option<Stop>, other: Option<Stop>) -> Option<Stop>
     ensures { result ≡ tokens.kept_stop own other }
 {
     match own {
@@ -146,7 +146,7 @@ impl Shared {
         let StrandToken { seat, track, stop } = token;
         join_as::<Brand>(&self.table.shared, seat, other, track.behind, track.second);
         track.take_in(ended);
-        *stop = kept(*stop, last);
+        *stop = first_stop(*stop, last);
     }
 
     fn join_note(&self, token: &mut StrandToken, ending: StrandToken)

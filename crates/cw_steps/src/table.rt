@@ -8,13 +8,13 @@ mod opening;
 mod reads;
 
 use crate::Track;
-use crate::law::{Board, TokenSeat};
+use crate::law::{BoardTable, TokenSeat};
 use cw_log::Stop;
 
 /// The words and slots that threads share.
 #[derive(Drop)]
 pub struct Shared {
-    pub(crate) table: Board,
+    pub(crate) table: BoardTable,
     pub(crate) cells: u32,
     ghost cell_count: { cells ≡ length table.shared.key.first },
     ghost words: { table.shared.table_id.words ≡ all_words (length table.shared.key.first) table.shared.key.columns },

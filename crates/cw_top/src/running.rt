@@ -73,7 +73,7 @@ fn run_on_threads<R: Threads + Wait + Sync, G: Gate>(
 }
 
 // Runs a program as a command says: on threads, or by the moves of virtual workers.
-fn done_by<R: Threads + Wait + Sync, G: Gate>(
+fn run_program<R: Threads + Wait + Sync, G: Gate>(
     rt: &R,
     alloc: Global,
     command: Command,
@@ -113,7 +113,7 @@ fn done_by<R: Threads + Wait + Sync, G: Gate>(
 }
 
 // Like `done_by`, and shows that the record's tree is numbered.
-fn done<R: Threads + Wait + Sync, G: Gate>(
+fn run_command<R: Threads + Wait + Sync, G: Gate>(
     rt: &R,
     alloc: Global,
     command: Command,
@@ -132,7 +132,7 @@ fn done<R: Threads + Wait + Sync, G: Gate>(
     ensures numbered { IfOk result (λ r. IsNumberedDepthFirst r.tree) }
     ensures done { IfOk result (IsDoneBy command) }
 {
-    let kept = done_by(rt, alloc, command, program, gate)?;
+    let kept = run_program(rt, alloc, command, program, gate)?;
     // A hint to the prover: the root is a strand, and each other node has a smaller parent.
     let _ = kept.tree.nodes();
     Ok(kept)
@@ -179,5 +179,5 @@ pub fn run_of<R: Threads + Wait + Sync, S: Source, G: Gate>(
     if !takes_words(&program, command.word_count()) {
         return Err(NoRun::Misfit);
     }
-    Ok(done(rt, alloc, command, program, gate)?)
+    Ok(run_command(rt, alloc, command, program, gate)?)
 }

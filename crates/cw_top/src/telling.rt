@@ -115,7 +115,7 @@ pub fn without_run(why: NoRun) -> Reply
 }
 
 // Writes the text of a run that replays, and returns the reply.
-fn written<K: Sink>(alloc: Global, run: Record, telling: Telling, sink: &mut K) -> Reply
+fn write_reply<K: Sink>(alloc: Global, run: Record, telling: Telling, sink: &mut K) -> Reply
     requires { IsReplayed run }
     ensures later { K.faults sink.old ≤ K.faults sink.new }
     ensures kept { IfSome result.kept (λ r. r ≡ run) }
@@ -140,7 +140,7 @@ fn written<K: Sink>(alloc: Global, run: Record, telling: Telling, sink: &mut K) 
 }
 
 // Whether the run replays. One that is already known to replay is not checked.
-fn replays(alloc: Global, run: &Record, is_unsure: bool) -> Result<bool, cw_base::OutOfMemory>
+fn is_replayed(alloc: Global, run: &Record, is_unsure: bool) -> Result<bool, cw_base::OutOfMemory>
     requires takes { TakesWords run.now.program (length run.now.words) }
     requires sure { is_unsure ≡ false → IsReplayed run.now }
     ensures { IfOk result (λ b. IsTrue b ↔ IsReplayed run.now) }
@@ -155,7 +155,7 @@ fn replays(alloc: Global, run: &Record, is_unsure: bool) -> Result<bool, cw_base
 }
 
 /// Writes the text of a run if it replays, and returns the reply.
-pub fn told<K: Sink>(
+pub fn reply_to<K: Sink>(
     alloc: Global,
     run: Record,
     is_unsure: bool,
@@ -171,8 +171,8 @@ pub fn told<K: Sink>(
     ensures written { Writes (text_owed (text_in telling) result.kept result.status) result.note (K.written sink.old) (K.written sink.new) }
     ensures tells { (result.status ≡ 4 → ⊥) → StillTells (text_owed (text_in telling) result.kept result.status) (K.tells_for sink.old) (K.tells_for sink.new) (K.written sink.old) (K.written sink.new) }
 {
-    match replays(alloc, &run, is_unsure) {
-        Ok(true) => written(alloc, run, telling, sink),
+    match is_replayed(alloc, &run, is_unsure) {
+        Ok(true) => write_reply(alloc, run, telling, sink),
         Ok(false) => Reply {
             status: 8,
             note: Note::Nothing,

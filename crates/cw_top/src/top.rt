@@ -14,7 +14,7 @@ ghost use Rattle.cw_words.specs.Words.{command_in};
 
 use crate::reasons::NoRun;
 use crate::running::{has_several_threads, run_of};
-use crate::telling::{Telling, told, without_run};
+use crate::telling::{Telling, reply_to, without_run};
 use crate::{Note, Reply};
 use cw_io::{Gate, Sink, Source};
 use cw_words::{Command, command_of};
@@ -37,7 +37,7 @@ fn telling_of(command: &Command) -> Telling
 }
 
 // Runs a command, and writes its text.
-fn ran<R: Threads + Wait + Sync, S: Source, K: Sink, G: Gate>(
+fn do_command<R: Threads + Wait + Sync, S: Source, K: Sink, G: Gate>(
     rt: &R,
     alloc: Global,
     command: Command,
@@ -62,7 +62,7 @@ fn ran<R: Threads + Wait + Sync, S: Source, K: Sink, G: Gate>(
     let telling = telling_of(&command);
     let is_unsure = has_several_threads(&command);
     match run_of(rt, alloc, command, source, gate) {
-        Ok(run) => told(alloc, run, is_unsure, telling, sink),
+        Ok(run) => reply_to(alloc, run, is_unsure, telling, sink),
         Err(why) => without_run(why),
     }
 }
@@ -96,7 +96,7 @@ fn answer<R: Threads + Wait + Sync, S: Source, K: Sink, G: Gate>(
             note: Note::Usage,
             kept: None,
         },
-        Some(command) => ran(rt, alloc, command, source, sink, gate),
+        Some(command) => do_command(rt, alloc, command, source, sink, gate),
     }
 }
 

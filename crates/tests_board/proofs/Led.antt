@@ -94,7 +94,7 @@ module _ (x y : Token) (strand fork number outer begun : ℕ) (split late : Bool
       (ap (λ s. kept_stop s y.stop) stop_is ∙ none)
       (ap (λ b. b || y.told) told_is ∙ untold)
 
--- as `behind` tells where that strand stands
+-- as `rejoin` tells where that strand stands
 module _ (x y : Token) (strand fork number outer begun : ℕ) (split late : Bool) (phase ended : Phase) (forks strands all ones more others : List ℕ)
     (hx : IsLed x strand fork split phase all ones) (hy : IsLed y begun number late ended more others) (none : more ≡ []) (first : all ≡ number ∷ forks) (one : ones ≡ outer ∷ strands) where
   left_led : IsLed x strand fork split phase (number ∷ forks) (outer ∷ strands)

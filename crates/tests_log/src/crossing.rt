@@ -39,6 +39,8 @@ fn meets<N: Naming>(pairs: &Pairs<u32, N>, mine: Side<N>, other: Side<N>) -> Opt
     let here = mine.value;
     let there = other.value;
     if mine.half.number() != other.half.number() {
+        drop(mine);
+        drop(other);
         return None;
     }
     pairs.meet(mine.half, other.half);
@@ -51,10 +53,65 @@ fn parks<N: Naming, R: Wait>(rt: &R, thief: Thief<Side<N>>, frame: &Mutex<Option
     for _ in 0..LOOKS {
         if let Some(side) = thief.steal(rt) {
             *frame.lock(rt) = Some(side);
-            return;
+            break;
         }
         thread::yield_now();
     }
+}
+
+/// A deque with its thief.
+fn decks<N: Naming>(alloc: Global) -> Result<(Deck<Side<N>>, Thief<Side<N>>), OutOfMemory> {
+    let mut deck = Deck::new(alloc)?;
+    match deck.thief() {
+        Ok(thief) => Ok((deck, thief)),
+        Err(fault) => {
+            drop(deck);
+            Err(fault)
+        }
+    }
+}
+
+fn pushes<N: Naming>(deck: &mut Deck<Side<N>>, side: Side<N>) -> Result<(), OutOfMemory> {
+    match deck.push(side) {
+        Ok(()) => Ok(()),
+        Err(back) => {
+            drop(back);
+            Err(OutOfMemory)
+        }
+    }
+}
+
+/// What another thread stole and left under a lock.
+fn stolen<N: Naming, R: Threads + Wait + Sync>(rt: &R, thief: Thief<Side<N>>) -> Option<Side<N>> {
+    let frame: Mutex<Option<Side<N>>> = Mutex::new(None);
+    let shared = &frame;
+    let _ = thread::join(rt, || parks(rt, thief, shared), || ());
+    frame.into_inner()
+}
+
+/// A side that went through a deque to another thread, and back.
+fn crossed<N: Naming, R: Threads + Wait + Sync>(
+    rt: &R,
+    alloc: Global,
+    side: Side<N>,
+) -> Result<Option<Side<N>>, OutOfMemory> {
+    let (deck, thief) = match decks(alloc) {
+        Ok(decks) => decks,
+        Err(fault) => {
+            drop(side);
+            return Err(fault);
+        }
+    };
+    let mut deck = deck;
+    let crossed = match pushes(&mut deck, side) {
+        Ok(()) => Ok(stolen(rt, thief)),
+        Err(fault) => {
+            drop(thief);
+            Err(fault)
+        }
+    };
+    drop(deck);
+    crossed
 }
 
 fn crosses<N: Naming, R: Threads + Wait + Sync>(
@@ -68,18 +125,21 @@ fn crosses<N: Naming, R: Threads + Wait + Sync>(
 {
     let (pairs, mut source) = opened.named::<N>();
     let (mine, other) = forks(&pairs, &mut source, value);
-    let mut deck = Deck::new(alloc)?;
-    let thief = deck.thief()?;
-    if deck.push(other).is_err() {
-        return Err(OutOfMemory);
-    }
-    let frame: Mutex<Option<Side<N>>> = Mutex::new(None);
-    let shared = &frame;
-    let _ = thread::join(rt, || parks(rt, thief, shared), || ());
-    let Some(other) = frame.into_inner() else {
-        return Ok(None);
+    let crossed = crossed(rt, alloc, other);
+    drop(source);
+    let met = match crossed {
+        Ok(Some(other)) => Ok(meets(&pairs, mine, other)),
+        Ok(None) => {
+            drop(mine);
+            Ok(None)
+        }
+        Err(fault) => {
+            drop(mine);
+            Err(fault)
+        }
     };
-    Ok(meets(&pairs, mine, other))
+    drop(pairs);
+    met
 }
 
 /// Returns both values of a pair, one half of which went to another thread and back.

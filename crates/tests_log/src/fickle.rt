@@ -47,7 +47,13 @@ impl Fickle {
         ensures token { IfOk result (λ r. r.1 ≡ root_token) }
     {
         let values = Values::new(alloc, cells)?;
-        let token = StrandToken::root(alloc)?;
+        let token = match StrandToken::root(alloc) {
+            Ok(token) => token,
+            Err(fault) => {
+                drop(values);
+                return Err(fault);
+            }
+        };
         let board = Fickle {
             alloc,
             cells,

@@ -30,13 +30,21 @@ impl OneList {
         ensures board { IfOk result (λ r. (r.0.cells ≡ cells) × (r.0.attempts ≡ attempts)) }
         ensures token { IfOk result (λ r. r.1 ≡ root_token) }
     {
+        let values = Values::new(alloc, cells)?;
+        let token = match StrandToken::root(alloc) {
+            Ok(token) => token,
+            Err(fault) => {
+                drop(values);
+                return Err(fault);
+            }
+        };
         let board = OneList {
             cells,
             attempts,
-            values: Values::new(alloc, cells)?,
+            values,
             stamps: AtomicU64::new(1),
         };
-        Ok((board, StrandToken::root(alloc)?))
+        Ok((board, token))
     }
 
     fn stamp(&self) -> u64 {

@@ -1,5 +1,6 @@
 //! A token that keeps what it stands for, with what every board does to it.
-ghost use Rattle.std.specs.Prelude.{◌≡◌, ◌<◌, IsTrue, All, ◌≤◌, ◌^◌, ◌∷◌, ◌++◌, length, OnOk, OnErr, IfOk};
+ghost use Rattle.std.specs.Prelude.{◌≡◌, ◌<◌, IsTrue, All, ◌≤◌, ◌^◌, [], ◌∷◌, ◌++◌, length, OnOk, OnErr, IfOk};
+ghost use Rattle.cw_tree.specs.declared.node.Kind.TheVariants.{Strand};
 ghost use Rattle.cw_tree.specs.Nodes as nodes;
 ghost use Rattle.cw_log.specs.Tokens.{AreOfOneFork, began, branched, ended, forked, halted, left_behind, made, once_split, refused, right_of, root_token, taken_in, turned, was_told, IsInline, IsLater};
 ghost use Rattle.tests_log.specs.Kept.{logs_of, StandsBeside};
@@ -124,13 +125,28 @@ fn all_three(a: bool, b: bool, c: bool) -> bool
     a && b && c
 }
 
+/// The nodes with which a log begins, and the room for it in a list.
+fn fresh_log(alloc: Global) -> Result<(Vec<Node>, LogRoom), OutOfMemory>
+    ensures { IfOk result (λ r. r.0.items ≡ nodes.fresh_node 0 Strand 0 ∷ []) }
+{
+    let place_in_list = LogRoom::new(alloc)?;
+    let mut nodes = Vec::new(alloc);
+    match nodes.push(fresh_node(0, Kind::Strand, 0)) {
+        Ok(()) => Ok((nodes, place_in_list)),
+        Err(fault) => {
+            drop(nodes);
+            drop(place_in_list);
+            Err(fault.into())
+        }
+    }
+}
+
 impl StrandToken {
     /// Makes the root's token.
     pub fn root(alloc: Global) -> Result<StrandToken, OutOfMemory>
         ensures { IfOk result (λ t. t ≡ root_token) }
     {
-        let mut nodes = Vec::new(alloc);
-        nodes.push(fresh_node(0, Kind::Strand, 0))?;
+        let (nodes, place_in_list) = fresh_log(alloc)?;
         Ok(StrandToken {
             column: 0,
             from: 0,
@@ -148,7 +164,7 @@ impl StrandToken {
             stop: None,
             told: false,
             room: LOGS - 1,
-            place_in_list: LogRoom::new(alloc)?,
+            place_in_list,
         })
     }
 
@@ -204,19 +220,20 @@ impl StrandToken {
         if fork >= NODES {
             return Err(OutOfMemory);
         }
+        self.nodes.reserve(3)?;
+        self.forks.reserve(1)?;
         let one = self.around.copy()?;
         let other = self.around.copy()?;
-        self.nodes.reserve(3)?;
         let fork = fork as u32;
         let at = Spot {
             strand: self.strand,
             place: self.place,
         };
-        self.forks.push(Kept::First {
+        self.forks.push_reserved(Kept::First {
             right: fork + 2,
             at,
             twice: Twice { one, other },
-        })?;
+        });
         let node = fresh_node(self.place, Kind::Fork, stamp);
         self.nodes.push_reserved(node);
         self.nodes.push_reserved(fresh_node(fork, Kind::Strand, 0));
@@ -289,8 +306,8 @@ impl StrandToken {
         ensures { IfOk result (λ r. r ≡ right_of self.now fork column) }
     {
         let alloc = *self.nodes.allocator();
-        let mut nodes = Vec::new(alloc);
-        nodes.push(fresh_node(0, Kind::Strand, 0))?;
+        let around = self.around.copy()?;
+        let (nodes, place_in_list) = fresh_log(alloc)?;
         Ok(StrandToken {
             column,
             from: self.column,
@@ -300,7 +317,7 @@ impl StrandToken {
             joined: Logs::new(alloc),
             strand: 0,
             place: 0,
-            around: self.around.copy()?,
+            around,
             forks: Vec::new(alloc),
             fork,
             split: false,
@@ -308,7 +325,7 @@ impl StrandToken {
             stop: None,
             told: false,
             room: u64::from(fork) - 1,
-            place_in_list: LogRoom::new(alloc)?,
+            place_in_list,
         })
     }
 
@@ -327,19 +344,20 @@ impl StrandToken {
         if node >= NODES || u64::from(fork) > self.room {
             return Err(OutOfMemory);
         }
-        let right = self.right(column, fork)?;
-        let around = self.around.copy()?;
         self.nodes.reserve(2)?;
+        self.forks.reserve(1)?;
+        let around = self.around.copy()?;
+        let right = self.right(column, fork)?;
         let node = node as u32;
         let at = Spot {
             strand: self.strand,
             place: self.place,
         };
-        self.forks.push(Kept::Beside {
+        self.forks.push_reserved(Kept::Beside {
             promise: Promise { fork },
             at,
             around,
-        })?;
+        });
         self.room -= u64::from(fork);
         let forked = fresh_node(self.place, Kind::Fork, stamp);
         self.nodes.push_reserved(forked);

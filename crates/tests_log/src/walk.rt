@@ -203,6 +203,7 @@ impl<'a> Walk<'a> {
     fn joins<R: Wait>(&self, rt: &R, left: StrandToken, right: StrandToken) -> StrandToken {
         if !left.is_beside(&right) || !left.is_done() || !right.is_done() {
             one_more(&self.seen.stuck);
+            drop(right);
             return left;
         }
         let mut token = self.board.join(left, right);
@@ -368,7 +369,36 @@ fn are_apart(alloc: Global, logs: &Logs) -> Result<bool, OutOfMemory> {
     Ok(columns.windows(2).all(|pair| pair[0] < pair[1]))
 }
 
+<<<<<<< HEAD
 /// Walks from a fresh root for each seed, and counts what was met.
+=======
+/// A walk from a fresh root.
+fn walks_once<R: Threads + Wait + Sync>(
+    rt: &R,
+    alloc: Global,
+    odds: Odds,
+    way: Way,
+    seed: u64,
+    seen: &Seen,
+) -> Result<(), OutOfMemory> {
+    let (board, token) = Fickle::new(alloc, CELLS, BUDGET, odds, seed)?;
+    let walk = Walk {
+        board: &board,
+        seen,
+        way,
+    };
+    let token = walk.walks(rt, token, seed, DEPTH);
+    if token.is_done() {
+        seen.logs
+            .fetch_add(token.joined.len() as u64 + 1, Ordering::SeqCst);
+    }
+    drop(token);
+    drop(board);
+    Ok(())
+}
+
+/// Walks, each from a fresh root, and says what was met.
+>>>>>>> 1dbe0aeb (tests_log: large values are made last, or dropped by a call before a function is left)
 pub fn walked<R: Threads + Wait + Sync>(
     rt: &R,
     alloc: Global,
@@ -377,17 +407,15 @@ pub fn walked<R: Threads + Wait + Sync>(
 ) -> Result<Counts, OutOfMemory> {
     let seen = Seen::new();
     for seed in 0..way.walks {
-        let (board, token) = Fickle::new(alloc, CELLS, BUDGET, odds, seed)?;
-        let walk = Walk {
-            board: &board,
-            seen: &seen,
-            way,
-        };
-        let token = walk.walks(rt, token, seed, DEPTH);
-        if token.is_done() {
-            seen.logs
-                .fetch_add(token.joined.len() as u64 + 1, Ordering::SeqCst);
+        match walks_once(rt, alloc, odds, way, seed, &seen) {
+            Ok(()) => {}
+            Err(fault) => {
+                drop(seen);
+                return Err(fault);
+            }
         }
     }
-    Ok(seen.counts())
+    let counts = seen.counts();
+    drop(seen);
+    Ok(counts)
 }

@@ -40,7 +40,7 @@ fn copy(alloc: Global, conflict: &Conflict) -> Result<Conflict, OutOfMemory>
 }
 
 /// Returns a copy of `conflicts`.
-fn copies(alloc: Global, conflicts: &[Conflict]) -> Result<Seq<Conflict>, OutOfMemory>
+fn copy_all(alloc: Global, conflicts: &[Conflict]) -> Result<Seq<Conflict>, OutOfMemory>
     ensures { IfOk result (λ cs. cs ≡ conflicts.now) }
 {
     let mut copies = Vec::with_capacity(alloc, conflicts.len())?;
@@ -65,14 +65,14 @@ impl Core {
             Ok(journals) => journals,
             Err(error) => return Err((self, error)),
         };
-        let conflicts = match copies(alloc, self.conflicts.as_slice()) {
+        let conflicts = match copy_all(alloc, self.conflicts.as_slice()) {
             Ok(conflicts) => conflicts,
             Err(error) => {
                 drop(journals);
                 return Err((self, error));
             }
         };
-        let (tree, links) = self.tree.apart();
+        let (tree, links) = self.tree.into_parts();
         let closed = Closed {
             tree,
             journals,

@@ -1,4 +1,4 @@
--- The strand that forked, behind both its strands: what `behind` asks, and what it makes of that.
+-- The strand that forked, behind both its strands: what `rejoin` asks, and what it makes of that.
 use Rattle.std.proofs.Common.{◌≡◌, ℕ, ◌+◌, ◌<◌, List, [], ◌∷◌, map, reverse, refl, ap, sym, ◌∙◌, subst, arith}
 use Rattle.std.specs.Prelude.{IsTrue}
 use Rattle.std.specs.List.{All}

@@ -24,7 +24,7 @@ use Rattle.cw_core.specs.State.{CoreState, spent}
 use Rattle.cw_core.specs.Events.{fits, after_event, reply_to, is_met, met_by, next}
 use Rattle.cw_core.specs.Laws.{IsCore}
 use Rattle.cw_sim.specs.Workers.{Simulation, changed_at}
-use Rattle.cw_sim.specs.Moves.{does, given_for, meets_cell, stops_if_spent, accesses}
+use Rattle.cw_sim.specs.Moves.{does, given_for, meets_cell, stop_if_spent, access_cell}
 use Rattle.cw_sim.specs.Kept.{CoreGoesOn}
 use Rattle.cw_sim.specs.Laws.{NamesCell}
 use Rattle.cw_sim.specs.Inside.{HasInside}
@@ -148,7 +148,7 @@ module _ (c : Driver) (x cell : ℕ) (write : Option ℤ) (z : Seen) (may : MayD
         (λ b q. may.step.steady.stands.saved b (left.plain_more k.machine.first k on e fit node more plain b q))
 
     -- and it stands for the move once it is
-    pub access_comes : (given : Given) → given ≡ given_for write v → (d : Driver) → StandsFor d (answered x given (record z { m = does e z.m })) → Comes d z (accesses (law_of z) x cell write z.m)
+    pub access_comes : (given : Given) → given ≡ given_for write v → (d : Driver) → StandsFor d (answered x given (record z { m = does e z.m })) → Comes d z (access_cell (law_of z) x cell write z.m)
     access_comes given is d stands =
         let P : Reply → Type 0 = λ r. Comes d z (meets_cell (law_of z) x write r (does e z.m)) in
         let Q : Given → Type 0 = λ g. StandsFor d (answered x g (record z { m = does e z.m })) in
@@ -188,7 +188,7 @@ module _ (c : Driver) (x cell : ℕ) (write : Option ℤ) (z : Seen) (may : MayD
         (left.plain_more k.machine.first k on e fit tried tried_more refl)
 
     -- and it stands for the move once the run has stopped, where it has to
-    pub refused_comes : (d : Driver) → StandsFor d (record z { m = stops_if_spent (law_of z) (does e z.m) }) → Comes d z (accesses (law_of z) x cell write z.m)
+    pub refused_comes : (d : Driver) → StandsFor d (record z { m = stop_if_spent (law_of z) (does e z.m) }) → Comes d z (access_cell (law_of z) x cell write z.m)
     refused_comes d stands =
         let P : Bool → Type 0 = λ b. Comes d z (meets_cell (law_of z) x write (reply_by against (unwrap_or write (live_value k.machine cell)) b) (does e z.m)) in
         subst P (sym met) (

@@ -24,7 +24,7 @@ use Rattle.cw_core.specs.Laws.{IsCore}
 use Rattle.cw_job.specs.Room.Strands.{StrandState}
 use Rattle.cw_job.specs.Room.Saves.{IsSavedOf}
 use Rattle.cw_sim.specs.Kept.{CoreGoesOn}
-use Rattle.cw_sim.specs.Moves.{does, answers, gives_up}
+use Rattle.cw_sim.specs.Moves.{does, answer_want, give_up}
 use Rattle.cw_sim.specs.Workers.{tree, changed_at}
 use Rattle.cw_sim.specs.ThingsInMemory.{thing_at}
 use Rattle.cw_sim.specs.InMemory.{Seen, StandsFor, Comes, MayStep, MayDo, MayAnswer, law_of, answered}
@@ -112,7 +112,7 @@ module _ (c : Driver) (x : ℕ) (z : Seen) (may : MayDo c x want.Cancel z) where
 
   -- and it stands for the move once it is answered
   pub cancel_comes : (r : Reply) (list : List PutBack) → r ≡ reply.Back list → r ≡ reply_to c.core (event.Cancel x) → (d : Driver)
-      → StandsFor d (answered x (Back list) (record z { m = does (event.Cancel x) z.m })) → Comes d z (gives_up (law_of z) x z.m)
+      → StandsFor d (answered x (Back list) (record z { m = does (event.Cancel x) z.m })) → Comes d z (give_up (law_of z) x z.m)
   cancel_comes r list is replied d stands =
       let P : Want → Type 0 = λ w. IsAnswer (law_of z).elements w (Back back) in
       let Q : List PutBack → Type 0 = λ l. StandsFor d (answered x (Back l) (record z { m = does (event.Cancel x) z.m })) in
@@ -140,7 +140,7 @@ module _ (c : Driver) (x : ℕ) (v : ℤ) (z : Seen) (may : MayDo c x (want.Out 
       (λ b e. may.step.steady.stands.saved b (left.plain_more z.m.core.machine.first z.m.core on (event.Out x v) fit node more refl b e))
 
   -- and it stands for the move once it is
-  pub out_comes : (d : Driver) → StandsFor d (answered x Nothing (record z { m = does (event.Out x v) z.m })) → Comes d z (answers (law_of z) x Nothing (does (event.Out x v) z.m))
+  pub out_comes : (d : Driver) → StandsFor d (answered x Nothing (record z { m = does (event.Out x v) z.m })) → Comes d z (answer_want (law_of z) x Nothing (does (event.Out x v) z.m))
   out_comes d stands =
       let on = may.step.steady.core in
       let P : Want → Type 0 = λ w. IsAnswer (law_of z).elements w Nothing in

@@ -18,7 +18,7 @@ use Rattle.cw_job.specs.Jobs.{bare_job}
 use Rattle.cw_job.specs.Room.Strands.{StrandState, IsOf, state_of, strands_of_job}
 use Rattle.cw_job.specs.Room.Saves.{IsSavedOf}
 use Rattle.cw_job.proofs.Room.Wants.{same_want}
-use Rattle.cw_sim.specs.Moves.{does, begins}
+use Rattle.cw_sim.specs.Moves.{does, begin_block}
 use Rattle.cw_sim.specs.Workers.{tree, changed_at}
 use Rattle.cw_sim.specs.ThingsInMemory.{thing_at, Puts}
 use Rattle.cw_sim.specs.Kept.{CoreGoesOn}
@@ -95,7 +95,7 @@ module _ (c : Driver) (x : ℕ) (z : Seen) (may : MayDo c x Begin z) where
         ])
 
   -- and it stands for the move once it is
-  pub begin_comes : (d : Driver) → StandsFor d (answered x Nothing begun) → Comes d z (begins (law_of z) x z.m)
+  pub begin_comes : (d : Driver) → StandsFor d (answered x Nothing begun) → Comes d z (begin_block (law_of z) x z.m)
   begin_comes d stands = (
     changed_at x ((law_of z).answer (z.m.at x) Nothing) z.there,
     (

@@ -16,7 +16,7 @@ use Rattle.cw_core.specs.State.{CoreState}
 use Rattle.cw_core.specs.Events.{fits, after_event, next}
 use Rattle.cw_core.specs.Laws.{IsCore}
 use Rattle.cw_job.specs.Room.Saves.{IsSavedOf}
-use Rattle.cw_sim.specs.Moves.{does, answers}
+use Rattle.cw_sim.specs.Moves.{does, answer_want}
 use Rattle.cw_sim.specs.Workers.{tree, changed_at}
 use Rattle.cw_sim.specs.ThingsInMemory.{thing_at, Puts}
 use Rattle.cw_sim.specs.Kept.{CoreGoesOn}
@@ -72,7 +72,7 @@ module _ (c : Driver) (x : ℕ) (z : Seen) (may : MayDo c x End z) where
       (old.0, puts n ∙ ap (λ o. cond o None (thing_at c.saved n)) (ne_eqb n b (λ q. few.0 (q ∙ place_there c x z b may.step at))) ∙ old.1, old.2))
 
   -- and it stands for the move once it is
-  pub end_comes : (d : Driver) → StandsFor d (answered x Nothing (record z { m = does (event.Commit x) z.m })) → Comes d z (answers (law_of z) x Nothing (does (event.Commit x) z.m))
+  pub end_comes : (d : Driver) → StandsFor d (answered x Nothing (record z { m = does (event.Commit x) z.m })) → Comes d z (answer_want (law_of z) x Nothing (does (event.Commit x) z.m))
   end_comes d stands =
       let P : Want → Type 0 = λ w. IsAnswer (law_of z).elements w Nothing in (
         changed_at x ((law_of z).answer (z.m.at x) Nothing) z.there,

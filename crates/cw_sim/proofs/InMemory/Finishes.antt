@@ -18,7 +18,7 @@ use Rattle.cw_core.specs.State.{CoreState, is_split}
 use Rattle.cw_core.specs.Events.{fits, after_event}
 use Rattle.cw_core.proofs.Events.Going.{well}
 use Rattle.cw_sim.specs.Workers.{Worker, left_node, right_node, worker}
-use Rattle.cw_sim.specs.Moves.{does, follows, finishes}
+use Rattle.cw_sim.specs.Moves.{does, follow_up, finish_strand}
 use Rattle.cw_sim.specs.Kept.{Runs, AreWorkers, CoreGoesOn, forks_around}
 use Rattle.cw_sim.specs.InMemory.{Seen, law_of, Comes, IsSteady, Wants, MayFinish, MayMeet, IsDead, HasFinished}
 use Rattle.cw_sim.specs.WorkersInMemory.{IsLast}
@@ -167,5 +167,5 @@ module _ (c : Driver) (w x : ℕ) (dead : Bool) (z : Seen) (may : MayFinish c w 
     }
 
     -- what follows is what comes of it
-    pub finish_comes : (e : Driver) → (HasFinished d w x dead y → Comes e y (follows (law_of z) w x dead y.m)) → Comes e z (finishes (law_of z) w x dead z.m)
+    pub finish_comes : (e : Driver) → (HasFinished d w x dead y → Comes e y (follow_up (law_of z) w x dead y.m)) → Comes e z (finish_strand (law_of z) w x dead z.m)
     finish_comes e comes = comes has_finished_now

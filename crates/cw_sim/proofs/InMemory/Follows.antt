@@ -9,7 +9,7 @@ use Rattle.cw_open.specs.Machine.{has_finished}
 use Rattle.cw_core.specs.State.{CoreState, is_split}
 use Rattle.cw_job.specs.Room.Strands.{StrandState}
 use Rattle.cw_sim.specs.Workers.{Simulation, left_node, right_node, tree, worker_in}
-use Rattle.cw_sim.specs.Moves.{goes_to_right, joins_or_idles, follows}
+use Rattle.cw_sim.specs.Moves.{go_to_right, join_or_idle, follow_up}
 use Rattle.cw_sim.specs.InMemory.{Seen, law_of, StandsFor, Comes, MayMeet, MayTurn, HasFinished}
 use Rattle.cw_sim.specs.WorkersInMemory.{workers_of}
 use Rattle.cw_sim.specs.declared.moves.Driver.{Driver}
@@ -17,7 +17,7 @@ use Rattle.cw_sim.proofs.InMemory.Working.{run_stands}
 
 module _ {A : Type 0} (s : Strands A) (w : ℕ) (dead : Bool) (m : Simulation A) where
   follows_some : (x : ℕ) → (x ≡ 0 → ⊥) → let f = parent_of (tree m) x in
-      follows s w x dead m ≡ cond (nat_eq x (left_node f) && not (is_split m.core f)) (goes_to_right s w f dead m) (joins_or_idles s w f (has_finished m.core.machine (left_node f) && has_finished m.core.machine (right_node f)) m)
+      follow_up s w x dead m ≡ cond (nat_eq x (left_node f) && not (is_split m.core f)) (go_to_right s w f dead m) (join_or_idle s w f (has_finished m.core.machine (left_node f) && has_finished m.core.machine (right_node f)) m)
   follows_some zero some = absurd (some refl)
   follows_some (suc x) some = refl
 
@@ -34,9 +34,9 @@ module _ (c : Driver) (w x : ℕ) (dead : Bool) (z : Seen) (may : HasFinished c 
 
   -- after main
   pub follows_main : x ≡ 0 → (new : Driver) → workers_of new.workers.items ≡ slice_set (workers_of c.workers.items) w (record (worker_in (workers_of c.workers.items) w) { runs = None })
-      → Comes (record c { workers = new.workers }) z (follows (law_of z) w x dead z.m)
+      → Comes (record c { workers = new.workers }) z (follow_up (law_of z) w x dead z.m)
   follows_main e new workers =
-      let P : ℕ → Type 0 = λ x. Comes (record c { workers = new.workers }) z (follows (law_of z) w x dead z.m) in
+      let P : ℕ → Type 0 = λ x. Comes (record c { workers = new.workers }) z (follow_up (law_of z) w x dead z.m) in
       subst P (sym e) (z.there, (run_stands c z held new w None workers, may.steady.inside))
 
   module _ (some : x ≡ 0 → ⊥) (fork : ℕ) (up : fork ≡ parent_of c.core.machine.tree x) where
@@ -63,27 +63,27 @@ module _ (c : Driver) (w x : ℕ) (dead : Bool) (z : Seen) (may : HasFinished c 
     abbrev both : ℕ → Bool
     both f = has_finished k.machine (left_node f) && has_finished k.machine (right_node f)
 
-    by_test : (d : Driver) (b : Bool) → (nat_eq x (left_node f) && not (is_split k f)) ≡ b → Comes d z (cond b (goes_to_right (law_of z) w f dead z.m) (joins_or_idles (law_of z) w f (both f) z.m)) → Comes d z (follows (law_of z) w x dead z.m)
+    by_test : (d : Driver) (b : Bool) → (nat_eq x (left_node f) && not (is_split k f)) ≡ b → Comes d z (cond b (go_to_right (law_of z) w f dead z.m) (join_or_idle (law_of z) w f (both f) z.m)) → Comes d z (follow_up (law_of z) w x dead z.m)
     by_test d b e comes =
         let P : Simulation StrandState → Type 0 = λ m. Comes d z m in
-        subst P (sym (follows_some (law_of z) w dead z.m x some ∙ ap (λ b. cond b (goes_to_right (law_of z) w f dead z.m) (joins_or_idles (law_of z) w f (both f) z.m)) e)) comes
+        subst P (sym (follows_some (law_of z) w dead z.m x some ∙ ap (λ b. cond b (go_to_right (law_of z) w f dead z.m) (join_or_idle (law_of z) w f (both f) z.m)) e)) comes
 
     -- after such a left one
-    pub follows_left : (left : x ≡ fork + 1) (off : is_split c.core fork ≡ false) (d : Driver) → (MayTurn c w fork dead z → Comes d z (goes_to_right (law_of z) w fork dead z.m)) → Comes d z (follows (law_of z) w x dead z.m)
+    pub follows_left : (left : x ≡ fork + 1) (off : is_split c.core fork ≡ false) (d : Driver) → (MayTurn c w fork dead z → Comes d z (go_to_right (law_of z) w fork dead z.m)) → Comes d z (follow_up (law_of z) w x dead z.m)
     follows_left left off d comes =
-        let P : ℕ → Type 0 = λ f. Comes d z (goes_to_right (law_of z) w f dead z.m) in
+        let P : ℕ → Type 0 = λ f. Comes d z (go_to_right (law_of z) w f dead z.m) in
         by_test d true (and_from (nat_eq x (left_node f)) (not (is_split k f)) (eq-eqb x (left_node f) (left_is left)) (not_from_false (is_split k f) (sym split_is ∙ off)))
         (subst P (sym is_it) (comes (may_turn left off)))
 
-    met : (nat_eq x (left_node f) && not (is_split k f)) ≡ false → (d : Driver) → (MayMeet c w fork z → Comes d z (joins_or_idles (law_of z) w fork (both fork) z.m)) → Comes d z (follows (law_of z) w x dead z.m)
+    met : (nat_eq x (left_node f) && not (is_split k f)) ≡ false → (d : Driver) → (MayMeet c w fork z → Comes d z (join_or_idle (law_of z) w fork (both fork) z.m)) → Comes d z (follow_up (law_of z) w x dead z.m)
     met e d comes =
-        let P : ℕ → Type 0 = λ f. Comes d z (joins_or_idles (law_of z) w f (both f) z.m) in
+        let P : ℕ → Type 0 = λ f. Comes d z (join_or_idle (law_of z) w f (both f) z.m) in
         by_test d false e (subst P (sym is_it) (comes may_meet))
 
     -- after a right one
-    pub follows_right : (x ≡ fork + 1 → ⊥) → (d : Driver) → (MayMeet c w fork z → Comes d z (joins_or_idles (law_of z) w fork (both fork) z.m)) → Comes d z (follows (law_of z) w x dead z.m)
+    pub follows_right : (x ≡ fork + 1 → ⊥) → (d : Driver) → (MayMeet c w fork z → Comes d z (join_or_idle (law_of z) w fork (both fork) z.m)) → Comes d z (follow_up (law_of z) w x dead z.m)
     follows_right ne = met (and_left (nat_eq x (left_node f)) (not (is_split k f)) (ne_eqb x (left_node f) (λ e. ne (e ∙ ap left_node is_it))))
 
     -- and where the fork was split
-    pub follows_split : is_split c.core fork ≡ true → (d : Driver) → (MayMeet c w fork z → Comes d z (joins_or_idles (law_of z) w fork (both fork) z.m)) → Comes d z (follows (law_of z) w x dead z.m)
+    pub follows_split : is_split c.core fork ≡ true → (d : Driver) → (MayMeet c w fork z → Comes d z (join_or_idle (law_of z) w fork (both fork) z.m)) → Comes d z (follow_up (law_of z) w x dead z.m)
     follows_split on = met (and_right (nat_eq x (left_node f)) (not (is_split k f)) (not_from_true (is_split k f) (sym split_is ∙ on)))

@@ -23,7 +23,7 @@ use Rattle.cw_job.specs.Room.Saves.{StandsAs}
 use Rattle.cw_job.proofs.Room.Backs.{stands_as_it}
 use Rattle.cw_job.proofs.Room.Wants.{same_want}
 use Rattle.cw_sim.specs.Workers.{Worker, left_node, right_node, changed_at, with_fork, worker_in}
-use Rattle.cw_sim.specs.Moves.{forks}
+use Rattle.cw_sim.specs.Moves.{fork_strand}
 use Rattle.cw_sim.specs.Kept.{CoreGoesOn}
 use Rattle.cw_sim.specs.Inside.{goes_back, HasInside}
 use Rattle.cw_sim.specs.InMemory.{Seen, law_of, has_body, IsBody, StandsFor, Comes, MayStep, MayFork}
@@ -145,7 +145,7 @@ module _ (c : Driver) (w x : ℕ) (z : Seen) (may : MayFork c w x z) where
     there = changed_at (left_node n) left (changed_at (right_node n) right z.there)
 
     abbrev after_it : Seen
-    after_it = record z { m = forks (law_of z) w x z.m; there = there }
+    after_it = record z { m = fork_strand (law_of z) w x z.m; there = there }
 
     fork_is : fork ≡ n
     fork_is = is_fork ∙ ap (λ k. length k.machine.tree) held.core
@@ -227,9 +227,9 @@ module _ (c : Driver) (w x : ℕ) (z : Seen) (may : MayFork c w x z) where
             (h.0, ap (λ things. thing_at things b) saved ∙ h.1, h.2));
       }
 
-      inside_after : HasInside (law_of z) (forks (law_of z) w x z.m) there
+      inside_after : HasInside (law_of z) (fork_strand (law_of z) w x z.m) there
       inside_after = fork_inside (law_of z) m.first z.m on z.there step.steady.inside x step.running step.ready fit may.fork.alive may.fork.wanted
 
       -- the two strands stand where they begin, and worker w goes on with the left one
-      pub forks_come : Comes new z (forks (law_of z) w x z.m)
+      pub forks_come : Comes new z (fork_strand (law_of z) w x z.m)
       forks_come = (there, (stands_after, inside_after))

@@ -18,7 +18,7 @@ use Rattle.cw_job.specs.Room.Strands.{StrandState, IsOf, state_of, strands_of_jo
 use Rattle.cw_job.specs.Room.Saves.{StandsAs}
 use Rattle.cw_job.proofs.Room.Backs.{stands_as_it}
 use Rattle.cw_sim.specs.Workers.{left_node, right_node, changed_at, worker_in}
-use Rattle.cw_sim.specs.Moves.{joins}
+use Rattle.cw_sim.specs.Moves.{join_strands}
 use Rattle.cw_sim.specs.Kept.{CoreGoesOn}
 use Rattle.cw_sim.specs.Inside.{HasInside}
 use Rattle.cw_sim.specs.InMemory.{Seen, law_of, has_body, IsBody, StandsFor, Comes, MayJoin}
@@ -173,7 +173,7 @@ module _ (c : Driver) (w f : ℕ) (z : Seen) (may : MayJoin c w f z) where
     there = changed_at p is.here z.there
 
     abbrev after_it : Seen
-    after_it = record z { m = joins (law_of z) w f z.m; there = there }
+    after_it = record z { m = join_strands (law_of z) w f z.m; there = there }
 
     parent_body : IsBody after_it p body
     parent_body =
@@ -222,9 +222,9 @@ module _ (c : Driver) (w f : ℕ) (z : Seen) (may : MayJoin c w f z) where
       saved = λ b pending. (let h = held.saved b pending in (h.0, ap (λ things. thing_at things b) saved ∙ h.1, h.2));
     }
 
-    inside_after : HasInside (law_of z) (joins (law_of z) w f z.m) there
+    inside_after : HasInside (law_of z) (join_strands (law_of z) w f z.m) there
     inside_after = join_inside (law_of z) k.machine.first z.m on z.there may.meet.steady.inside f may.meet.fork may.meet.joined may.right is.here is.goes is.lives
 
     -- they are joined, and worker w goes on with the strand that forked
-    pub joins_come : Comes new z (joins (law_of z) w f z.m)
+    pub joins_come : Comes new z (join_strands (law_of z) w f z.m)
     joins_come = (there, (stands_after, inside_after))

@@ -7,7 +7,7 @@ use Rattle.cw_open.specs.Machine.{has_finished}
 use Rattle.cw_core.specs.State.{CoreState}
 use Rattle.cw_core.proofs.Events.Going.{well}
 use Rattle.cw_sim.specs.Workers.{left_node, right_node, worker_in}
-use Rattle.cw_sim.specs.Moves.{joins, joins_or_idles}
+use Rattle.cw_sim.specs.Moves.{join_strands, join_or_idle}
 use Rattle.cw_sim.specs.InMemory.{Seen, law_of, Comes, MayMeet, MayJoin}
 use Rattle.cw_sim.specs.WorkersInMemory.{workers_of}
 use Rattle.cw_sim.specs.declared.moves.Driver.{Driver}
@@ -35,17 +35,17 @@ module _ (c : Driver) (w f : ℕ) (z : Seen) (may : MayMeet c w f z) where
   pub may_join : left_done c.core ≡ true → right_done c.core ≡ true → MayJoin c w f z
   may_join left right = record { meet = may; left = sym (ap left_done may.steady.stands.core) ∙ left; right = sym (ap right_done may.steady.stands.core) ∙ right }
 
-  meets_as : (b : Bool) → (left_done c.core && right_done c.core) ≡ b → (d : Driver) → Comes d z (joins_or_idles (law_of z) w f b z.m) → Comes d z (joins_or_idles (law_of z) w f (left_done k && right_done k) z.m)
+  meets_as : (b : Bool) → (left_done c.core && right_done c.core) ≡ b → (d : Driver) → Comes d z (join_or_idle (law_of z) w f b z.m) → Comes d z (join_or_idle (law_of z) w f (left_done k && right_done k) z.m)
   meets_as b e d comes =
-      let P : Bool → Type 0 = λ b. Comes d z (joins_or_idles (law_of z) w f b z.m) in
+      let P : Bool → Type 0 = λ b. Comes d z (join_or_idle (law_of z) w f b z.m) in
       subst P (sym e ∙ ap (λ j. left_done j && right_done j) may.steady.stands.core) comes
 
   -- so they do
-  pub met_joins : left_done c.core ≡ true → right_done c.core ≡ true → (d : Driver) → (MayJoin c w f z → Comes d z (joins (law_of z) w f z.m)) → Comes d z (joins_or_idles (law_of z) w f (left_done k && right_done k) z.m)
+  pub met_joins : left_done c.core ≡ true → right_done c.core ≡ true → (d : Driver) → (MayJoin c w f z → Comes d z (join_strands (law_of z) w f z.m)) → Comes d z (join_or_idle (law_of z) w f (left_done k && right_done k) z.m)
   met_joins left right d comes = meets_as true (and_from (left_done c.core) (right_done c.core) left right) d (comes (may_join left right))
 
   -- else the worker is idle
   pub met_alone : (left_done c.core && right_done c.core) ≡ false → (new : Driver)
       → workers_of new.workers.items ≡ slice_set (workers_of c.workers.items) w (record (worker_in (workers_of c.workers.items) w) { runs = None })
-      → Comes (record c { workers = new.workers }) z (joins_or_idles (law_of z) w f (left_done k && right_done k) z.m)
+      → Comes (record c { workers = new.workers }) z (join_or_idle (law_of z) w f (left_done k && right_done k) z.m)
   met_alone e new workers = meets_as false e (record c { workers = new.workers }) (z.there, (run_stands c z may.steady.stands new w None workers, may.steady.inside))

@@ -20,7 +20,7 @@ use Rattle.cw_job.specs.declared.standing.Standing.{Standing}
 use Rattle.cw_job.specs.Jobs.{Job}
 use Rattle.cw_job.specs.Room.Strands.{StrandState, state_of, strands_of_job}
 use Rattle.cw_sim.specs.Workers.{tree, worker, worker_in, with_strand}
-use Rattle.cw_sim.specs.Moves.{does, others, steals, finishes, dies, acts, move}
+use Rattle.cw_sim.specs.Moves.{does, others, steal, finish_strand, die, do_want, move}
 use Rattle.cw_sim.specs.Kept.{Runs}
 use Rattle.cw_sim.specs.Inside.{HasOneOpenFork as IsThere, goes_back}
 use Rattle.cw_sim.specs.InMemory.{Seen, law_of, IsBody, StandsFor, Comes, MayMove, Wants, MayStep, MayDo, MayRoll, MayFork, MayAct, MayDie, MayFinish}
@@ -97,19 +97,19 @@ module _ (c : Driver) (w x : ℕ) (z : Seen) (may : MayDie c w x z) where
 
   -- and else it finishes dead
   pub may_finish_dead : in_block c.core.machine x ≡ false → MayFinish c w x true z
-  may_finish_dead out = record { may = may.may; runs = may.runs; dies = may.dying; over = sym same_block ∙ out }
+  may_finish_dead out = record { may = may.may; runs = may.runs; die = may.dying; over = sym same_block ∙ out }
 
   dies_as : (b : Bool) → in_block c.core.machine x ≡ b → (d : Driver)
-      → Comes d z (cond b (with_strand x (z.m.saved (place (tree z.m) x)) (does (event.Roll x) z.m)) (finishes (law_of z) w x true z.m)) → Comes d z (dies (law_of z) w x z.m)
+      → Comes d z (cond b (with_strand x (z.m.saved (place (tree z.m) x)) (does (event.Roll x) z.m)) (finish_strand (law_of z) w x true z.m)) → Comes d z (die (law_of z) w x z.m)
   dies_as b e d comes =
-      let P : Bool → Type 0 = λ b. Comes d z (cond b (with_strand x (z.m.saved (place (tree z.m) x)) (does (event.Roll x) z.m)) (finishes (law_of z) w x true z.m)) in
+      let P : Bool → Type 0 = λ b. Comes d z (cond b (with_strand x (z.m.saved (place (tree z.m) x)) (does (event.Roll x) z.m)) (finish_strand (law_of z) w x true z.m)) in
       subst P (sym e ∙ same_block) comes
 
   -- so the rule is the one or the other
-  pub died_rolled : in_block c.core.machine x ≡ true → (d : Driver) → (MayRoll c x z → Comes d z (with_strand x (z.m.saved (place (tree z.m) x)) (does (event.Roll x) z.m))) → Comes d z (dies (law_of z) w x z.m)
+  pub died_rolled : in_block c.core.machine x ≡ true → (d : Driver) → (MayRoll c x z → Comes d z (with_strand x (z.m.saved (place (tree z.m) x)) (does (event.Roll x) z.m))) → Comes d z (die (law_of z) w x z.m)
   died_rolled within d comes = dies_as true within d (comes (may_roll within))
 
-  pub died_finished : in_block c.core.machine x ≡ false → (d : Driver) → (MayFinish c w x true z → Comes d z (finishes (law_of z) w x true z.m)) → Comes d z (dies (law_of z) w x z.m)
+  pub died_finished : in_block c.core.machine x ≡ false → (d : Driver) → (MayFinish c w x true z → Comes d z (finish_strand (law_of z) w x true z.m)) → Comes d z (die (law_of z) w x z.m)
   died_finished out d comes = dies_as false out d (comes (may_finish_dead out))
 
 -- ## It does what it wants
@@ -128,7 +128,7 @@ module _ (c : Driver) (w x : ℕ) (want : Want) (z : Seen) (may : MayAct c w x w
   may_finish over = record {
     may = may.may;
     runs = may.runs;
-    dies = may.alive;
+    die = may.alive;
     over = may.may.wants.over x (is_free_here z.m.core.machine.first z.m.core may.may.steady.core z.m.workers may.may.workers w x may.runs may.alive) (ap is_over may.wanted ∙ ap is_over is ∙ over);
   }
 
@@ -140,14 +140,14 @@ module _ (c : Driver) (w x : ℕ) (want : Want) (z : Seen) (may : MayAct c w x w
       ap (λ j. fits j (event.Stop (halt.Fault x kind))) may.may.steady.stands.core ∙ stop_fits k (halt.Fault x kind) on.halt (strand_here k.machine.first k on z.m.workers may.may.workers w x may.runs)
 
   -- and then it does
-  pub faulted : (kind : FaultKind) → v ≡ Wanted.Fault kind → (d : Driver) → (StandsFor c z → StandsFor d (record z { m = does (event.Stop (halt.Fault x kind)) z.m })) → Comes d z (acts (law_of z) w x want z.m)
+  pub faulted : (kind : FaultKind) → v ≡ Wanted.Fault kind → (d : Driver) → (StandsFor c z → StandsFor d (record z { m = does (event.Stop (halt.Fault x kind)) z.m })) → Comes d z (do_want (law_of z) w x want z.m)
   faulted kind e d stands =
-      let P : Want → Type 0 = λ v. Comes d z (acts (law_of z) w x v z.m) in
+      let P : Want → Type 0 = λ v. Comes d z (do_want (law_of z) w x v z.m) in
       subst P (sym (is ∙ e)) (z.there, (stands may.may.steady.stands, stop_inside (law_of z) z.m (halt.Fault x kind) z.there may.may.steady.inside))
 
   -- what comes of that want comes of the rule
-  pub acts_so : (d : Driver) → Comes d z (acts (law_of z) w x v z.m) → Comes d z (acts (law_of z) w x want z.m)
-  acts_so d comes = let P : Want → Type 0 = λ v. Comes d z (acts (law_of z) w x v z.m) in subst P (sym is) comes
+  pub acts_so : (d : Driver) → Comes d z (do_want (law_of z) w x v z.m) → Comes d z (do_want (law_of z) w x want z.m)
+  acts_so d comes = let P : Want → Type 0 = λ v. Comes d z (do_want (law_of z) w x v z.m) in subst P (sym is) comes
 
 -- ## Which it is
 
@@ -164,13 +164,13 @@ module _ (c : Driver) (w : ℕ) (z : Seen) (may : MayMove c w z) where
   runs_so body read = sym (ap (λ u. u.runs) (ap worker_of read ∙ sym (worker_there c.workers.items w body worker_is_there)) ∙ ap (λ ws. (worker_in ws w).runs) may.steady.stands.workers)
 
   moves_as : (o : Option ℕ) → (worker z.m w).runs ≡ o → (d : Driver)
-      → Comes d z (elim o [ None ↦ steals w (others z.m w) z.m | Some x ↦ cond (is_dying z.m.core.machine x) (dies s w x z.m) (acts s w x (s.want (z.m.at x)) z.m) ]) → Comes d z (move s w z.m)
+      → Comes d z (elim o [ None ↦ steal w (others z.m w) z.m | Some x ↦ cond (is_dying z.m.core.machine x) (die s w x z.m) (do_want s w x (s.want (z.m.at x)) z.m) ]) → Comes d z (move s w z.m)
   moves_as o e d comes =
-      let P : Option ℕ → Type 0 = λ o. Comes d z (elim o [ None ↦ steals w (others z.m w) z.m | Some x ↦ cond (is_dying z.m.core.machine x) (dies s w x z.m) (acts s w x (s.want (z.m.at x)) z.m) ]) in
+      let P : Option ℕ → Type 0 = λ o. Comes d z (elim o [ None ↦ steal w (others z.m w) z.m | Some x ↦ cond (is_dying z.m.core.machine x) (die s w x z.m) (do_want s w x (s.want (z.m.at x)) z.m) ]) in
       subst P (sym e) comes
 
   -- idle: it steals
-  pub moves_idle : (worker z.m w).runs ≡ None → (d : Driver) → Comes d z (steals w (others z.m w) z.m) → Comes d z (move s w z.m)
+  pub moves_idle : (worker z.m w).runs ≡ None → (d : Driver) → Comes d z (steal w (others z.m w) z.m) → Comes d z (move s w z.m)
   moves_idle e d comes = moves_as None e d comes
 
   module _ (x : ℕ) (run : (worker z.m w).runs ≡ Some x) where
@@ -185,16 +185,16 @@ module _ (c : Driver) (w : ℕ) (z : Seen) (may : MayMove c w z) where
     pub has_body_there : IsSome (thing_at c.bodies x)
     has_body_there = let b = body_of c w z may x run in some_here (thing_at c.bodies x) b.0 b.1
 
-    by_dying : (b : Bool) → is_dying c.core.machine x ≡ b → (d : Driver) → Comes d z (cond b (dies s w x z.m) (acts s w x (s.want (z.m.at x)) z.m)) → Comes d z (move s w z.m)
+    by_dying : (b : Bool) → is_dying c.core.machine x ≡ b → (d : Driver) → Comes d z (cond b (die s w x z.m) (do_want s w x (s.want (z.m.at x)) z.m)) → Comes d z (move s w z.m)
     by_dying b e d comes =
-        let P : Bool → Type 0 = λ b. Comes d z (cond b (dies s w x z.m) (acts s w x (s.want (z.m.at x)) z.m)) in
+        let P : Bool → Type 0 = λ b. Comes d z (cond b (die s w x z.m) (do_want s w x (s.want (z.m.at x)) z.m)) in
         moves_as (Some x) run d (subst P (sym e ∙ same_dying) comes)
 
     -- a dying one dies
     pub may_die : is_dying c.core.machine x ≡ true → MayDie c w x z
     may_die dying = record { may = may; runs = run; dying = sym same_dying ∙ dying }
 
-    pub moves_dying : is_dying c.core.machine x ≡ true → (d : Driver) → (MayDie c w x z → Comes d z (dies s w x z.m)) → Comes d z (move s w z.m)
+    pub moves_dying : is_dying c.core.machine x ≡ true → (d : Driver) → (MayDie c w x z → Comes d z (die s w x z.m)) → Comes d z (move s w z.m)
     moves_dying dying d comes = by_dying true dying d (comes (may_die dying))
 
     module _ (alive : is_dying c.core.machine x ≡ false) (body : Standing) (there : thing_at c.bodies x ≡ Some body) (want : Want) (is : (job : Job) → want ≡ (strands_of_job job).want (state_of body)) where
@@ -205,7 +205,7 @@ module _ (c : Driver) (w : ℕ) (z : Seen) (may : MayMove c w z) where
       pub may_act : MayAct c w x want z
       may_act = record { may = may; runs = run; alive = sym same_dying ∙ alive; wanted = wanted }
 
-      pub moves_acting : (d : Driver) → (MayAct c w x want z → Comes d z (acts s w x want z.m)) → Comes d z (move s w z.m)
+      pub moves_acting : (d : Driver) → (MayAct c w x want z → Comes d z (do_want s w x want z.m)) → Comes d z (move s w z.m)
       moves_acting d comes =
-          let P : Want → Type 0 = λ v. Comes d z (acts s w x v z.m) in
+          let P : Want → Type 0 = λ v. Comes d z (do_want s w x v z.m) in
           by_dying false alive d (subst P (sym wanted) (comes may_act))

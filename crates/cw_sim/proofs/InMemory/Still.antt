@@ -14,7 +14,7 @@ use Rattle.cw_core.specs.declared.event.Event.TheVariants as event
 use Rattle.cw_job.specs.Room.Strands.{StrandState}
 use Rattle.cw_job.specs.Room.Saves.{IsSavedOf}
 use Rattle.cw_sim.specs.Workers.{Simulation, tree}
-use Rattle.cw_sim.specs.Moves.{does, stops_if_spent}
+use Rattle.cw_sim.specs.Moves.{does, stop_if_spent}
 use Rattle.cw_sim.specs.Inside as inside
 use Rattle.cw_sim.specs.ThingsInMemory.{thing_at}
 use Rattle.cw_sim.specs.InMemory.{Seen, StandsFor, has_body, law_of}
@@ -57,7 +57,7 @@ stop_stands c k z (halt.Budget x) old e core = still_stands c k z (after_event z
 stop_stands c k z halt.Memory old e core = still_stands c k z (after_event z.m.core (event.Stop halt.Memory)) old e core (λ n h. h) (λ n h. h) (λ n h. h)
 
 -- where no budget is spent it goes on
-pub unspent_stands : (c : Driver) (z : Seen) → StandsFor c z → spent c.core ≡ None → StandsFor c (record z { m = stops_if_spent (law_of z) z.m })
+pub unspent_stands : (c : Driver) (z : Seen) → StandsFor c z → spent c.core ≡ None → StandsFor c (record z { m = stop_if_spent (law_of z) z.m })
 unspent_stands c z old none =
     let P : Option ℕ → Type 0 = λ o. StandsFor c (record z { m = option_map_or (λ x. does (event.Stop (halt.Budget x)) z.m) o z.m }) in
     subst P (sym (ap spent (sym old.core) ∙ none)) old

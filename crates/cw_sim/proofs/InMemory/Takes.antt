@@ -10,7 +10,7 @@ use Rattle.cw_core.specs.Laws.{IsCore}
 use Rattle.cw_core.proofs.Events.Going.{well}
 use Rattle.cw_job.specs.Room.Strands.{StrandState}
 use Rattle.cw_sim.specs.Workers.{Worker, Simulation, right_node, worker, worker_in}
-use Rattle.cw_sim.specs.Moves.{others, takes, steals}
+use Rattle.cw_sim.specs.Moves.{others, take_fork, steal}
 use Rattle.cw_sim.specs.WorkersInMemory.{worker_of, workers_of, first_with_forks, workers_next as workers_after}
 use Rattle.cw_sim.specs.InMemory.{Seen, StandsFor, IsSteady, MayMove, MayTake, Comes}
 use Rattle.cw_sim.specs.declared.worker.Worker.{Worker as WorkerInMemory}
@@ -37,24 +37,24 @@ as_it_is c z steady = (z.there, (steady.stands, steady.inside))
 
 module _ {A : Type 0} (m : Simulation A) (w : ℕ) where
   -- it gives its oldest fork
-  steals_some : (vs : List ℕ) (v f : ℕ) (fs : List ℕ) → first_with_forks m.workers vs ≡ Some v → (worker m v).deque ≡ f ∷ fs → steals w vs m ≡ takes w v f fs m
+  steals_some : (vs : List ℕ) (v f : ℕ) (fs : List ℕ) → first_with_forks m.workers vs ≡ Some v → (worker m v).deque ≡ f ∷ fs → steal w vs m ≡ take_fork w v f fs m
   steals_some [] v f fs e d = absurd (cc e)
   steals_some (u ∷ us) v f fs e d = by (steals_some us v f fs) (worker m u).deque refl e where
-    by : (first_with_forks m.workers us ≡ Some v → (worker m v).deque ≡ f ∷ fs → steals w us m ≡ takes w v f fs m) → (ds : List ℕ) → (worker m u).deque ≡ ds → elim ds [ [] ↦ first_with_forks m.workers us | g ∷ gs ↦ Some u ] ≡ Some v
-        → elim ds [ [] ↦ steals w us m | g ∷ gs ↦ takes w u g gs m ] ≡ takes w v f fs m
+    by : (first_with_forks m.workers us ≡ Some v → (worker m v).deque ≡ f ∷ fs → steal w us m ≡ take_fork w v f fs m) → (ds : List ℕ) → (worker m u).deque ≡ ds → elim ds [ [] ↦ first_with_forks m.workers us | g ∷ gs ↦ Some u ] ≡ Some v
+        → elim ds [ [] ↦ steal w us m | g ∷ gs ↦ take_fork w u g gs m ] ≡ take_fork w v f fs m
     by later [] q h = later h d
     by later (g ∷ gs) q h =
         let same : u ≡ v = cc in
         let all : g ∷ gs ≡ f ∷ fs = sym q ∙ ap (λ i. (worker m i).deque) same ∙ d in
         let head : g ≡ f = cc in
         let rest : gs ≡ fs = cc in
-        ap (λ i. takes w i g gs m) same ∙ ap (λ n. takes w v n gs m) head ∙ ap (λ ns. takes w v f ns m) rest
+        ap (λ i. take_fork w i g gs m) same ∙ ap (λ n. take_fork w v n gs m) head ∙ ap (λ ns. take_fork w v f ns m) rest
 
   -- where there is none nothing happens
-  steals_none : (vs : List ℕ) → first_with_forks m.workers vs ≡ None → steals w vs m ≡ m
+  steals_none : (vs : List ℕ) → first_with_forks m.workers vs ≡ None → steal w vs m ≡ m
   steals_none [] e = refl
   steals_none (u ∷ us) e = by (steals_none us) (worker m u).deque e where
-    by : (first_with_forks m.workers us ≡ None → steals w us m ≡ m) → (ds : List ℕ) → ◌≡◌ {A = Option ℕ} (elim ds [ [] ↦ first_with_forks m.workers us | g ∷ gs ↦ Some u ]) None → elim ds [ [] ↦ steals w us m | g ∷ gs ↦ takes w u g gs m ] ≡ m
+    by : (first_with_forks m.workers us ≡ None → steal w us m ≡ m) → (ds : List ℕ) → ◌≡◌ {A = Option ℕ} (elim ds [ [] ↦ first_with_forks m.workers us | g ∷ gs ↦ Some u ]) None → elim ds [ [] ↦ steal w us m | g ∷ gs ↦ take_fork w u g gs m ] ≡ m
     by later [] h = later h
     by later (g ∷ gs) h = absurd (cc h)
 
@@ -87,14 +87,14 @@ module _ (c : Driver) (w : ℕ) (z : Seen) (may : MayMove c w z) (now : List Wor
       record { may = may; there = some_there z.m.workers v some; some = some }
 
   -- what comes of the taking comes of the stealing
-  pub stolen : (v : ℕ) → r ≡ Some v → (d : Driver) → (MayTake c w v z → (f : ℕ) (fs : List ℕ) → (worker z.m v).deque ≡ f ∷ fs → Comes d z (takes w v f fs z.m)) → Comes d z (steals w (others z.m w) z.m)
+  pub stolen : (v : ℕ) → r ≡ Some v → (d : Driver) → (MayTake c w v z → (f : ℕ) (fs : List ℕ) → (worker z.m v).deque ≡ f ∷ fs → Comes d z (take_fork w v f fs z.m)) → Comes d z (steal w (others z.m w) z.m)
   stolen v e d comes =
       let first = oldest (worker z.m v).deque (may_take v e).some in
       let P : Simulation StrandState → Type 0 = λ m. Comes d z m in
       subst P (sym (steals_some z.m w (others z.m w) v first.fork first.rest (found ∙ e) first.is)) (comes (may_take v e) first.fork first.rest first.is)
 
   -- where there is none nothing comes of it
-  pub none_stolen : r ≡ None → Comes c z (steals w (others z.m w) z.m)
+  pub none_stolen : r ≡ None → Comes c z (steal w (others z.m w) z.m)
   none_stolen e =
       let P : Simulation StrandState → Type 0 = λ m. Comes c z m in
       subst P (sym (steals_none z.m w (others z.m w) (found ∙ e))) (as_it_is c z may.steady)
@@ -160,7 +160,7 @@ module _ (c : Driver) (w v : ℕ) (z : Seen) (may : MayTake c w v z) (r : Option
     -- once it was split, and worker w has its right strand
     pub taken_comes : (j : CoreState) (rest : Driver) → j ≡ after_event c.core (event.Split fork) → IsCore j.machine.first j
         → workers_of rest.workers.items ≡ slice_set (workers_of new) w (record (worker_in (workers_of new) w) { runs = Some (right_node fork) })
-        → (f : ℕ) (fs : List ℕ) → (worker z.m v).deque ≡ f ∷ fs → Comes (record c { core = j; workers = rest.workers }) z (takes w v f fs z.m)
+        → (f : ℕ) (fs : List ℕ) → (worker z.m v).deque ≡ f ∷ fs → Comes (record c { core = j; workers = rest.workers }) z (take_fork w v f fs z.m)
     taken_comes j rest e core ran f fs q = (
       z.there,
       (

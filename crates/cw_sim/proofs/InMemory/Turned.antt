@@ -8,7 +8,7 @@ use Rattle.cw_core.specs.declared.event.Event.TheVariants as event
 use Rattle.cw_core.specs.State.{CoreState}
 use Rattle.cw_core.specs.Events.{after_event}
 use Rattle.cw_sim.specs.Workers.{left_node, right_node, worker, worker_in}
-use Rattle.cw_sim.specs.Moves.{does, takes_back, joins, goes_to_right}
+use Rattle.cw_sim.specs.Moves.{does, takes_back, join_strands, go_to_right}
 use Rattle.cw_sim.specs.InMemory.{Seen, law_of, Comes, IsSteady, MayJoin, MayTurn}
 use Rattle.cw_sim.specs.WorkersInMemory.{workers_of, without_waiting}
 use Rattle.cw_sim.specs.declared.moves.Driver.{Driver}
@@ -31,9 +31,9 @@ module _ (c : Driver) (w f : ℕ) (dead : Bool) (z : Seen) (may : MayTurn c w f 
 
   -- a live one: the worker goes on with the right one
   pub turned : dead ≡ false → (new : Driver) → workers_of new.workers.items ≡ slice_set (workers_of took.workers.items) w (record (worker_in (workers_of took.workers.items) w) { runs = Some (right_node f) })
-      → Comes (record c { workers = new.workers }) z (goes_to_right (law_of z) w f dead z.m)
+      → Comes (record c { workers = new.workers }) z (go_to_right (law_of z) w f dead z.m)
   turned e new workers =
-      let P : Bool → Type 0 = λ b. Comes (record c { workers = new.workers }) z (goes_to_right (law_of z) w f b z.m) in
+      let P : Bool → Type 0 = λ b. Comes (record c { workers = new.workers }) z (go_to_right (law_of z) w f b z.m) in
       subst P (sym e) (z.there, (run_stands back y back_steady.stands new w (Some (right_node f)) workers, may.meet.steady.inside))
 
   -- a dead one: the right one finishes dead, too
@@ -59,8 +59,8 @@ module _ (c : Driver) (w f : ℕ) (dead : Bool) (z : Seen) (may : MayTurn c w f 
       }
 
       -- and they join
-      pub turned_dead : (e : Driver) → (MayJoin d w f x → Comes e x (joins (law_of x) w f x.m)) → Comes e z (goes_to_right (law_of z) w f dead z.m)
+      pub turned_dead : (e : Driver) → (MayJoin d w f x → Comes e x (join_strands (law_of x) w f x.m)) → Comes e z (go_to_right (law_of z) w f dead z.m)
       turned_dead e comes =
-          let P : Bool → Type 0 = λ b. Comes e z (goes_to_right (law_of z) w f b z.m) in
+          let P : Bool → Type 0 = λ b. Comes e z (go_to_right (law_of z) w f b z.m) in
           let there = comes both_join in
           subst P (sym is) (there.0, there.1)

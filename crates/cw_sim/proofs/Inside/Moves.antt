@@ -38,7 +38,7 @@ use Rattle.cw_core.specs.Events.{fits, after_event, is_met, met_by, next}
 use Rattle.cw_core.specs.Laws.{IsCore}
 use Rattle.cw_core.proofs.Events.Kept.{events}
 use Rattle.cw_sim.specs.Workers.{Simulation, left_node, right_node, changed_at, with_strand}
-use Rattle.cw_sim.specs.Moves.{does, answers, begins, gives_up}
+use Rattle.cw_sim.specs.Moves.{does, answer_want, begin_block, give_up}
 use Rattle.cw_sim.specs.Kept.{CoreGoesOn}
 use Rattle.cw_sim.proofs.Kept.After.{conflicts_after}
 use Rattle.cw_sim.specs.Inside.{IsRightOf, GoesBackIn, AreInside, HasInside}
@@ -114,12 +114,12 @@ module _ {A : Type 0} (s : Strands A) (first : List ℤ) (m : Simulation A) (on 
 
     -- an output
     pub out_inside : (v : ℤ) → fits k (event.Out x v) ≡ true → is_dying mm x ≡ false → IsAnswer s.elements (s.want (m.at x)) Nothing → (s.want (m.at x) ≡ End → ⊥)
-        → HasInside s (answers s x Nothing (does (event.Out x v) m)) (changed_at x (s.answer (m.at x) Nothing) there)
+        → HasInside s (answer_want s x Nothing (does (event.Out x v) m)) (changed_at x (s.answer (m.at x) Nothing) there)
     out_inside v fit free answer off = leaf (event.Out x v) fit (fresh_node p (Out v) (next k)) (out_more first k on x running ready v) refl refl free Nothing answer off
 
     -- a block is given up
     pub cancel_inside : fits k (event.Cancel x) ≡ true → is_dying mm x ≡ false → IsAnswer s.elements (s.want (m.at x)) (Back (puts_back mm x (next k))) → (s.want (m.at x) ≡ End → ⊥)
-        → HasInside s (gives_up s x m) (changed_at x (s.answer (m.at x) (Back (puts_back mm x (next k)))) there)
+        → HasInside s (give_up s x m) (changed_at x (s.answer (m.at x) (Back (puts_back mm x (next k)))) there)
     cancel_inside fit free answer off =
         leaf (event.Cancel x) fit (fresh_node p (Cancel (puts_back mm x (next k))) (next k)) (cancel_more first k on x running ready) refl refl free (Back (puts_back mm x (next k))) answer off
 
@@ -130,7 +130,7 @@ module _ {A : Type 0} (s : Strands A) (first : List ℤ) (m : Simulation A) (on 
     -- an access that is made
     pub access_inside : (c : ℕ) (w : Option ℤ) (given : Given) → fits k (event.Access x c w) ≡ true → is_met k x c ≡ false → (after_event k (event.Access x c w)).machine.conflicts ≡ mm.conflicts
         → is_dying mm x ≡ false → IsAnswer s.elements (s.want (m.at x)) given → (s.want (m.at x) ≡ End → ⊥)
-        → HasInside s (answers s x given (does (event.Access x c w) m)) (changed_at x (s.answer (m.at x) given) there)
+        → HasInside s (answer_want s x given (does (event.Access x c w) m)) (changed_at x (s.answer (m.at x) given) there)
     access_inside c w given fit met conflicts free answer off =
         leaf (event.Access x c w) fit (fresh_node p (access_kind c w (live_value mm c)) (next k)) (access_more first k on x running ready c w met)
         (Rattle.std.proofs.lemmas.Bool.and_left (is_block_kind (access_kind c w (live_value mm c))) _ (access_plain c w (live_value mm c))) conflicts free given answer off
@@ -158,7 +158,7 @@ module _ {A : Type 0} (s : Strands A) (first : List ℤ) (m : Simulation A) (on 
         cc (w, alone))) free off
 
     -- a block begins
-    pub begin_inside : fits k (event.Begin x) ≡ true → is_dying mm x ≡ false → s.want (m.at x) ≡ Begin → HasInside s (begins s x m) (changed_at x (s.answer (m.at x) Nothing) there)
+    pub begin_inside : fits k (event.Begin x) ≡ true → is_dying mm x ≡ false → s.want (m.at x) ≡ Begin → HasInside s (begin_block s x m) (changed_at x (s.answer (m.at x) Nothing) there)
     begin_inside fit free wants =
         let e = event.Begin x in
         let node = fresh_node p Block (next k) in
@@ -198,7 +198,7 @@ module _ {A : Type 0} (s : Strands A) (first : List ℤ) (m : Simulation A) (on 
 
     -- the end of its block
     pub commit_inside : fits k (event.Commit x) ≡ true → is_dying mm x ≡ false → in_block mm x ≡ true → s.want (m.at x) ≡ End → IsAnswer s.elements (s.want (m.at x)) Nothing
-        → HasInside s (answers s x Nothing (does (event.Commit x) m)) (changed_at x (s.answer (m.at x) Nothing) there)
+        → HasInside s (answer_want s x Nothing (does (event.Commit x) m)) (changed_at x (s.answer (m.at x) Nothing) there)
     commit_inside fit free within wants answer =
         let e = event.Commit x in
         let is = commit_shut first k on x running ready in

@@ -20,7 +20,7 @@ use Rattle.cw_core.specs.State.{CoreState, is_split}
 use Rattle.cw_core.specs.Events.{fits}
 use Rattle.cw_core.proofs.Events.Going.{well}
 use Rattle.cw_sim.specs.Workers.{Simulation, left_node, right_node, tree, worker}
-use Rattle.cw_sim.specs.Moves.{does, goes_to_right, joins_or_idles, finishes}
+use Rattle.cw_sim.specs.Moves.{does, go_to_right, join_or_idle, finish_strand}
 use Rattle.cw_sim.specs.Kept.{Runs, CoreGoesOn, AreStanding, HasStates}
 use Rattle.cw_sim.proofs.Kept.Finishing.{goes, done, takes_right}
 use Rattle.cw_sim.proofs.Laws.Fits.{finish_fits}
@@ -109,11 +109,11 @@ module _ {A : Type 0} (s : Strands A) (first : List ℤ) (m : Simulation A) (on 
     join_stands : x.reached (left_node f) ≡ n.at (left_node f) → x.reached (right_node f) ≡ n.at (right_node f) → AreStanding s (with_joined s n f) joined_n.before joined_n.after joined_n.reached
     join_stands = joined_stands s n w_n on_n.core.joined f fork unjoined (on.forks f fork) x on_finish
 
-    meet_states : (both : Bool) → (has_finished n.core.machine (left_node f) && has_finished n.core.machine (right_node f)) ≡ both → HasStates s (joins_or_idles s v f both n)
-    meet_states false e = same_states (joins_or_idles s v f false n) (record { tree = refl; joined = refl; finished = refl; at = λ i. refl; saved = λ b. refl })
+    meet_states : (both : Bool) → (has_finished n.core.machine (left_node f) && has_finished n.core.machine (right_node f)) ≡ both → HasStates s (join_or_idle s v f both n)
+    meet_states false e = same_states (join_or_idle s v f false n) (record { tree = refl; joined = refl; finished = refl; at = λ i. refl; saved = λ b. refl })
     meet_states true e =
         let ended = and_parts (has_finished n.core.machine (left_node f)) (has_finished n.core.machine (right_node f)) e in
-        states_alike s (with_joined s n f) (joins_or_idles s v f true n) (record { tree = refl; joined = refl; finished = refl; at = λ i. refl; saved = λ b. refl })
+        states_alike s (with_joined s n f) (join_or_idle s v f true n) (record { tree = refl; joined = refl; finished = refl; at = λ i. refl; saved = λ b. refl })
         (joined_n.before, joined_n.after, joined_n.reached, join_stands (left_stands ended.0) (right_stands ended.1))
 
     -- ## A left strand, whose fork was not split
@@ -137,19 +137,19 @@ module _ {A : Type 0} (s : Strands A) (first : List ℤ) (m : Simulation A) (on 
       right_runs = (takes_right first k on o dead at.running at.ready fit (worker m v) f fork off left at).running
 
       -- the right strand finishes dead, where it stands
-      turn_states : (d : Bool) → HasStates s (goes_to_right s v f d n)
-      turn_states false = same_states (goes_to_right s v f false n) (record { tree = refl; joined = refl; finished = refl; at = λ i. refl; saved = λ b. refl })
+      turn_states : (d : Bool) → HasStates s (go_to_right s v f d n)
+      turn_states false = same_states (go_to_right s v f false n) (record { tree = refl; joined = refl; finished = refl; at = λ i. refl; saved = λ b. refl })
       turn_states true =
           let j = with_joined s n f in
           let right = ap x.reached (sym right_place) ∙ running_stands s n w_n x on_finish (right_node f) right_runs in
           let h = join_stands (left_stands (ap (has_finished n.core.machine) (sym left) ∙ done_o)) right in
           let z = with_finished j (right_node f) true in
-          states_alike s z (goes_to_right s v f true n) (record { tree = refl; joined = refl; finished = refl; at = λ i. refl; saved = λ b. refl })
+          states_alike s z (go_to_right s v f true n) (record { tree = refl; joined = refl; finished = refl; at = λ i. refl; saved = λ b. refl })
           (joined_n.before, joined_n.after, joined_n.reached, finished_stands s j (right_node f) true joined_n h (λ e. absurd (cc e)))
 
-    follow_states : HasStates s (cond (nat_eq o (left_node f) && not (is_split n.core f)) (goes_to_right s v f dead n) (joins_or_idles s v f (has_finished n.core.machine (left_node f) && has_finished n.core.machine (right_node f)) n))
+    follow_states : HasStates s (cond (nat_eq o (left_node f) && not (is_split n.core f)) (go_to_right s v f dead n) (join_or_idle s v f (has_finished n.core.machine (left_node f) && has_finished n.core.machine (right_node f)) n))
     follow_states = by (nat_eq o (left_node f) && not (is_split n.core f)) refl where
-      by : (b : Bool) → (nat_eq o (left_node f) && not (is_split n.core f)) ≡ b → HasStates s (cond b (goes_to_right s v f dead n) (joins_or_idles s v f (has_finished n.core.machine (left_node f) && has_finished n.core.machine (right_node f)) n))
+      by : (b : Bool) → (nat_eq o (left_node f) && not (is_split n.core f)) ≡ b → HasStates s (cond b (go_to_right s v f dead n) (join_or_idle s v f (has_finished n.core.machine (left_node f) && has_finished n.core.machine (right_node f)) n))
       by false e = meet_states (has_finished n.core.machine (left_node f) && has_finished n.core.machine (right_node f)) refl
       by true e =
           let c = and_parts (nat_eq o (left_node f)) (not (is_split n.core f)) e in
@@ -158,6 +158,6 @@ module _ {A : Type 0} (s : Strands A) (first : List ℤ) (m : Simulation A) (on 
 -- ## The whole
 
 pub finish_states : {A : Type 0} (s : Strands A) (first : List ℤ) (m : Simulation A) → CoreGoesOn first m.core → HasStates s m → (v o : ℕ) → Runs m.core (worker m v) o → (dead : Bool) → is_dying m.core.machine o ≡ dead → in_block m.core.machine o ≡ false
-    → (dead ≡ false → is_over (s.want (m.at o)) ≡ true) → HasStates s (finishes s v o dead m)
-finish_states s first m on held v zero at dead dying out over = same_states s first m on held v zero at dead dying out over (finishes s v zero dead m) (record { tree = refl; joined = refl; finished = refl; at = λ i. refl; saved = λ b. refl })
+    → (dead ≡ false → is_over (s.want (m.at o)) ≡ true) → HasStates s (finish_strand s v o dead m)
+finish_states s first m on held v zero at dead dying out over = same_states s first m on held v zero at dead dying out over (finish_strand s v zero dead m) (record { tree = refl; joined = refl; finished = refl; at = λ i. refl; saved = λ b. refl })
 finish_states s first m on held v (suc i) at dead dying out over = follow_states s first m on held v (suc i) at dead dying out over (parent_of (tree m) (suc i)) refl (omega arith)

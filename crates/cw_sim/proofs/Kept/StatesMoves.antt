@@ -30,7 +30,7 @@ use Rattle.cw_record.specs.Replay.{IsAccessOf}
 use Rattle.cw_record.proofs.Coherent.AddedStates.{state_same, state_other}
 use Rattle.cw_record.proofs.Coherent.States.{DoesAs}
 use Rattle.cw_sim.specs.Workers.{Simulation, changed_at, tree, worker, with_strand}
-use Rattle.cw_sim.specs.Moves.{does, takes, steals, stops_if_spent, answers, meets_cell, accesses, begins, gives_up, forks}
+use Rattle.cw_sim.specs.Moves.{does, take_fork, steal, stop_if_spent, answer_want, meets_cell, access_cell, begin_block, give_up, fork_strand}
 use Rattle.cw_sim.specs.Kept.{CoreGoesOn, HasStates}
 use Rattle.cw_sim.proofs.Kept.Leaves.{IsMore}
 use Rattle.cw_sim.proofs.Kept.Quiet.{out_more, cancel_more, begin_more, access_more, refused_more, roll_shut}
@@ -48,7 +48,7 @@ module _ {A : Type 0} (s : Strands A) where
   stop_states m (halt.Budget x) old = states_alike s m (does (event.Stop (halt.Budget x)) m) (record { tree = refl; joined = refl; finished = refl; at = λ n. refl; saved = λ b. refl }) old
   stop_states m halt.Memory old = states_alike s m (does (event.Stop halt.Memory) m) (record { tree = refl; joined = refl; finished = refl; at = λ n. refl; saved = λ b. refl }) old
 
-  spent_states : (m : Simulation A) → HasStates s m → HasStates s (stops_if_spent s m)
+  spent_states : (m : Simulation A) → HasStates s m → HasStates s (stop_if_spent s m)
   spent_states m old = by (spent m.core) where
     by : (o : Option ℕ) → HasStates s (option_map_or (λ x. does (event.Stop (halt.Budget x)) m) o m)
     by None = old
@@ -56,12 +56,12 @@ module _ {A : Type 0} (s : Strands A) where
 
   -- ## A fork that is taken
 
-  pub steal_states : (m : Simulation A) (w : ℕ) → HasStates s m → (vs : List ℕ) → HasStates s (steals w vs m)
+  pub steal_states : (m : Simulation A) (w : ℕ) → HasStates s m → (vs : List ℕ) → HasStates s (steal w vs m)
   steal_states m w old [] = old
   steal_states m w old (v ∷ vs) = by (worker m v).deque (steal_states m w old vs) where
-    by : (ds : List ℕ) → HasStates s (steals w vs m) → HasStates s (elim ds [ [] ↦ steals w vs m | f ∷ fs ↦ takes w v f fs m ])
+    by : (ds : List ℕ) → HasStates s (steal w vs m) → HasStates s (elim ds [ [] ↦ steal w vs m | f ∷ fs ↦ take_fork w v f fs m ])
     by [] rest = rest
-    by (f ∷ fs) rest = states_alike s m (takes w v f fs m) (record { tree = refl; joined = refl; finished = refl; at = λ n. refl; saved = λ b. refl }) old
+    by (f ∷ fs) rest = states_alike s m (take_fork w v f fs m) (record { tree = refl; joined = refl; finished = refl; at = λ n. refl; saved = λ b. refl }) old
 
 -- ## A running strand
 
@@ -97,21 +97,21 @@ module _ {A : Type 0} (s : Strands A) (first : List ℤ) (m : Simulation A) (on 
   other_at : (v : A) (n : ℕ) → n ≢ o → changed_at o v m.at n ≡ m.at n
   other_at v n ne = state_other m.at o v n ne
 
-  pub out_states : (v : ℤ) → s.want a ≡ want.Out v → HasStates s (answers s o Nothing (does (event.Out o v) m))
+  pub out_states : (v : ℤ) → s.want a ≡ want.Out v → HasStates s (answer_want s o Nothing (does (event.Out o v) m))
   out_states v wants =
-      by_leaf (answers s o Nothing (does (event.Out o v) m)) (Out v) (next k) (out_more first k on o running ready v) (s.answer a Nothing) a (wants, refl) (λ e. absurd (cc e)) (state_same m.at o (s.answer a Nothing))
+      by_leaf (answer_want s o Nothing (does (event.Out o v) m)) (Out v) (next k) (out_more first k on o running ready v) (s.answer a Nothing) a (wants, refl) (λ e. absurd (cc e)) (state_same m.at o (s.answer a Nothing))
       (other_at (s.answer a Nothing)) (λ e. absurd (cc e)) (λ n l. refl)
 
-  pub cancel_states : s.want a ≡ want.Cancel → HasStates s (gives_up s o m)
+  pub cancel_states : s.want a ≡ want.Cancel → HasStates s (give_up s o m)
   cancel_states wants =
       let back = puts_back k.machine o (next k) in
       let given = Back back in
-      by_leaf (gives_up s o m) (Cancel back) (next k) (cancel_more first k on o running ready) (s.answer a given) a (wants, refl) (λ e. absurd (cc e)) (state_same m.at o (s.answer a given))
+      by_leaf (give_up s o m) (Cancel back) (next k) (cancel_more first k on o running ready) (s.answer a given) a (wants, refl) (λ e. absurd (cc e)) (state_same m.at o (s.answer a given))
       (other_at (s.answer a given)) (λ e. absurd (cc e)) (λ n l. refl)
 
-  pub begin_states : s.want a ≡ want.Begin → HasStates s (begins s o m)
+  pub begin_states : s.want a ≡ want.Begin → HasStates s (begin_block s o m)
   begin_states wants =
-      by_leaf (begins s o m) Block (next k) (begin_more first k on o running ready) a (s.answer a Nothing) (wants, refl) (λ e. refl) (state_same m.at o (s.answer a Nothing))
+      by_leaf (begin_block s o m) Block (next k) (begin_more first k on o running ready) a (s.answer a Nothing) (wants, refl) (λ e. refl) (state_same m.at o (s.answer a Nothing))
       (other_at (s.answer a Nothing)) (λ e. state_same m.saved g a) (λ n l. state_other m.saved g a n (λ e. omega (arith, e)))
 
   -- ## An access
@@ -120,7 +120,7 @@ module _ {A : Type 0} (s : Strands A) (first : List ℤ) (m : Simulation A) (on 
   at_cell c write = does (event.Access o c write) m
 
   -- one that is refused leaves the strand where it stood
-  refused_states : (c : ℕ) (write : Option ℤ) → is_met k o c ≡ true → IsAccessOf c (s.want a) → HasStates s (stops_if_spent s (at_cell c write))
+  refused_states : (c : ℕ) (write : Option ℤ) → is_met k o c ≡ true → IsAccessOf c (s.want a) → HasStates s (stop_if_spent s (at_cell c write))
   refused_states c write e wants =
       spent_states s (at_cell c write)
       (by_leaf (at_cell c write) (Tried c) 0 (refused_more first k on o running ready c write e) a a (wants, refl) (λ e. absurd (cc e)) refl (λ n ne. refl) (λ e. absurd (cc e)) (λ n l. refl))
@@ -128,7 +128,7 @@ module _ {A : Type 0} (s : Strands A) (first : List ℤ) (m : Simulation A) (on 
   abbrev met : (c : ℕ) → Option ℤ → Bool → Simulation A
   met c write b = meets_cell s o write (cond b (reply.Conflict (refusal k.machine p c (met_by k o c))) (reply.Value (unwrap_or write (live_value k.machine c)))) (at_cell c write)
 
-  pub load_states : (c : ℕ) → s.want a ≡ want.Load c → HasStates s (accesses s o c None m)
+  pub load_states : (c : ℕ) → s.want a ≡ want.Load c → HasStates s (access_cell s o c None m)
   load_states c wants = by (is_met k o c) refl where
     P : Want → Type 0
     P = IsAccessOf c
@@ -140,7 +140,7 @@ module _ {A : Type 0} (s : Strands A) (first : List ℤ) (m : Simulation A) (on 
         by_leaf (met c None false) (Read c v) (next k) (access_more first k on o running ready c None e) (s.answer a (Value v)) a (wants, refl) (λ e. absurd (cc e)) (state_same m.at o (s.answer a (Value v)))
         (other_at (s.answer a (Value v))) (λ e. absurd (cc e)) (λ n l. refl)
 
-  pub store_states : (c : ℕ) (v : ℤ) → s.want a ≡ want.Store c v → HasStates s (accesses s o c (Some v) m)
+  pub store_states : (c : ℕ) (v : ℤ) → s.want a ≡ want.Store c v → HasStates s (access_cell s o c (Some v) m)
   store_states c v wants = by (is_met k o c) refl where
     P : Want → Type 0
     P = IsAccessOf c
@@ -153,18 +153,18 @@ module _ {A : Type 0} (s : Strands A) (first : List ℤ) (m : Simulation A) (on 
 
   -- ## A fork
 
-  pub fork_states : (v : ℕ) → s.want a ≡ want.Fork → HasStates s (forks s v o m)
+  pub fork_states : (v : ℕ) → s.want a ≡ want.Fork → HasStates s (fork_strand s v o m)
   fork_states v wants =
-      states_alike s (with_fork s m o (next k)) (forks s v o m) (record { tree = refl; joined = refl; finished = refl; at = λ n. refl; saved = λ b. refl })
+      states_alike s (with_fork s m o (next k)) (fork_strand s v o m) (record { tree = refl; joined = refl; finished = refl; at = λ n. refl; saved = λ b. refl })
       (forked_states s m w joined_forks o running (next k) x held.3 wants)
 
   -- ## The end of a block
 
   module _ (within : in_block k.machine o ≡ true) where
-    pub commit_states : s.want a ≡ want.End → HasStates s (answers s o Nothing (does (event.Commit o) m))
+    pub commit_states : s.want a ≡ want.End → HasStates s (answer_want s o Nothing (does (event.Commit o) m))
     commit_states wants =
         let b = s.answer a Nothing in
-        states_alike s (with_closed m o Committed (next k) (changed_at o b m.at)) (answers s o Nothing (does (event.Commit o) m))
+        states_alike s (with_closed m o Committed (next k) (changed_at o b m.at)) (answer_want s o Nothing (does (event.Commit o) m))
         (record { tree = refl; joined = refl; finished = refl; at = λ n. refl; saved = λ b. refl })
         (closed_states s first m on o running ready within Committed refl (next k) b (changed_at o b m.at) x held.3 (wants, refl) (state_same m.at o b) (other_at b))
 

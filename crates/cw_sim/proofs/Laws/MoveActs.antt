@@ -14,7 +14,7 @@ use Rattle.cw_core.specs.declared.event.Reply.TheVariants as reply
 use Rattle.cw_core.specs.State.{CoreState, spent}
 use Rattle.cw_core.specs.Events.{after_event, is_met, met_by}
 use Rattle.cw_sim.specs.Workers.{Simulation, Worker, tree, worker_in, worker, with_strand}
-use Rattle.cw_sim.specs.Moves.{does, dies, finishes, meets_cell, accesses, acts}
+use Rattle.cw_sim.specs.Moves.{does, die, finish_strand, meets_cell, access_cell, do_want}
 use Rattle.cw_sim.specs.Kept.{Runs, AreWorkers, CoreGoesOn}
 use Rattle.cw_sim.specs.Laws.{NamesCell}
 use Rattle.cw_sim.proofs.Laws.EventsFit.{strand_here, is_free_here, fork_fits_here, begin_fits_here, out_fits_here, cancel_fits_here, access_fits_here, commit_fits_here, rolls_here, roll_fits_here, finish_fits_here}
@@ -38,9 +38,9 @@ module _ {A : Type 0} (s : Strands A) (first : List ℤ) (n : Simulation A) (w :
 
   -- ## A dying strand
 
-  pub dies_to : is_dying k.machine x ≡ true → GoesTo first k (dies s w x n)
+  pub dies_to : is_dying k.machine x ≡ true → GoesTo first k (die s w x n)
   dies_to dying = by (in_block k.machine x) refl where
-    by : (b : Bool) → in_block k.machine x ≡ b → GoesTo first k (cond b (with_strand x (n.saved (place (tree n) x)) (does (event.Roll x) n)) (finishes s w x true n))
+    by : (b : Bool) → in_block k.machine x ≡ b → GoesTo first k (cond b (with_strand x (n.saved (place (tree n) x)) (does (event.Roll x) n)) (finish_strand s w x true n))
     by false e = finishes_to s first n w low on old x run true (finish_fits_here first k on ws old w x run true dying e)
     by true e =
         let o = with_strand x (n.saved (place (tree n) x)) (does (event.Roll x) n) in
@@ -65,7 +65,7 @@ module _ {A : Type 0} (s : Strands A) (first : List ℤ) (n : Simulation A) (w :
         by_event first o k (event.Access x c write) (access_fits_here first k on ws old w x run c write alive named)
         (by_event first o z (event.Stop (halt.Budget y)) (spent_stop z y on.halt e) (halted first o (halt.Budget y) refl))
 
-    access_to : (c : ℕ) (write : Option ℤ) → c < length first → GoesTo first k (accesses s x c write n)
+    access_to : (c : ℕ) (write : Option ℤ) → c < length first → GoesTo first k (access_cell s x c write n)
     access_to c write named = by (is_met k x c) refl where
       by : (b : Bool) → is_met k x c ≡ b
           → GoesTo first k (meets_cell s x write (cond b (reply.Conflict (refusal k.machine (place k.machine.tree x) c (met_by k x c))) (reply.Value (unwrap_or write (live_value k.machine c)))) (does (event.Access x c write) n))
@@ -86,38 +86,38 @@ module _ {A : Type 0} (s : Strands A) (first : List ℤ) (n : Simulation A) (w :
       out_of : (want : Want) → s.want (n.at x) ≡ want → is_over want ≡ true → in_block k.machine x ≡ false
       out_of want e over = wants.over x free (ap is_over e ∙ over)
 
-      ends_to : (want : Want) → s.want (n.at x) ≡ want → is_over want ≡ true → GoesTo first k (finishes s w x false n)
+      ends_to : (want : Want) → s.want (n.at x) ≡ want → is_over want ≡ true → GoesTo first k (finish_strand s w x false n)
       ends_to want e over = finishes_to s first n w low on old x run false (finish_fits_here first k on ws old w x run false alive (out_of want e over))
 
-      pub acts_to : (want : Want) → s.want (n.at x) ≡ want → GoesTo first k (acts s w x want n)
+      pub acts_to : (want : Want) → s.want (n.at x) ≡ want → GoesTo first k (do_want s w x want n)
       acts_to (Load c) e = access_to c None (names (Load c) e)
       acts_to (Store c v) e = access_to c (Some v) (names (Store c v) e)
       acts_to (Out v) e =
-          let o = acts s w x (Out v) n in
+          let o = do_want s w x (Out v) n in
           let fit = out_fits_here first k on ws old w x run v alive in
           let kept = keeps_out first k on x at.running at.ready v ws old fit in
           by_event first o k (event.Out x v) fit (goes_on_there first o kept.goes kept.workers)
       acts_to Begin e =
-          let o = acts s w x Begin n in
+          let o = do_want s w x Begin n in
           let fit = begin_fits_here first k on ws old w x run alive in
           let kept = keeps_begin first k on x at.running at.ready ws old fit in
           by_event first o k (event.Begin x) fit (goes_on_there first o kept.goes kept.workers)
       acts_to End e =
-          let o = acts s w x End n in
+          let o = do_want s w x End n in
           let fit = commit_fits_here first k on ws old w x run alive (wants.ends x free e) in
           let kept = keeps_commit first k on x at.running at.ready ws old fit in
           by_event first o k (event.Commit x) fit (goes_on_there first o kept.goes kept.workers)
       acts_to Cancel e =
-          let o = acts s w x Cancel n in
+          let o = do_want s w x Cancel n in
           let fit = cancel_fits_here first k on ws old w x run alive (wants.cancels x free e) in
           let kept = keeps_cancel first k on x at.running at.ready ws old fit in
           by_event first o k (event.Cancel x) fit (goes_on_there first o kept.goes kept.workers)
       acts_to Fork e =
-          let o = acts s w x Fork n in
+          let o = do_want s w x Fork n in
           let fit = fork_fits_here first k on ws old w x run alive in
           by_event first o k (event.Fork x) fit (goes_on_there first o (forks_goes first k on ws old w x run fit) (forks_workers first k on ws old w x run fit low))
       acts_to Sync e = ends_to Sync e refl
       acts_to Done e = ends_to Done e refl
       acts_to (Fault kind) e =
-          let o = acts s w x (Fault kind) n in
+          let o = do_want s w x (Fault kind) n in
           by_event first o k (event.Stop (halt.Fault x kind)) (stop_fits k (halt.Fault x kind) on.halt (strand_here first k on ws old w x run)) (halted first o (halt.Fault x kind) refl)

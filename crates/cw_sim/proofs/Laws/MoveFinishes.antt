@@ -18,7 +18,7 @@ use Rattle.cw_core.specs.State.{CoreState, is_split}
 use Rattle.cw_core.specs.Events.{fits, after_event}
 use Rattle.cw_core.proofs.Events.Going.{well}
 use Rattle.cw_sim.specs.Workers.{Worker, Simulation, waiting, left_node, right_node, worker_in}
-use Rattle.cw_sim.specs.Moves.{does, goes_to_right, joins_or_idles, finishes}
+use Rattle.cw_sim.specs.Moves.{does, go_to_right, join_or_idle, finish_strand}
 use Rattle.cw_sim.specs.Kept.{Runs, AreWorkers, CoreGoesOn, forks_around}
 use Rattle.cw_sim.proofs.Laws.EventsFit.{strand_here, fork_here, unjoined_here, join_fits_here, right_fits_here, both_fit_here}
 use Rattle.cw_sim.proofs.Kept.Finishing.{done, more, left_behind, takes_right, filter_has}
@@ -143,11 +143,11 @@ module _ {A : Type 0} (s : Strands A) (first : List ℤ) (n : Simulation A) (w :
 
   -- the right strand is w's, or it finishes dead too, and they join
   turns_to : (x : ℕ) (run : (worker_in ws w).runs ≡ Some x) (dead : Bool) (fit : fits k (event.Finish x dead) ≡ true) → 0 < x → x ≡ left_node (fork_of x) → is_split k (fork_of x) ≡ false
-      → GoesTo first (after_event k (event.Finish x dead)) (goes_to_right s w (fork_of x) dead (does (event.Finish x dead) n))
+      → GoesTo first (after_event k (event.Finish x dead)) (go_to_right s w (fork_of x) dead (does (event.Finish x dead) n))
   turns_to x run false fit some left off =
       let f = fork_of x in
       let o = does (event.Finish x false) n in
-      goes_on_there first (goes_to_right s w f false o) (finish_goes first k on ws old w x run false fit)
+      goes_on_there first (go_to_right s w f false o) (finish_goes first k on ws old w x run false fit)
       (subst (λ us. AreWorkers (after_event k (event.Finish x false)) us) (sym (set_run ws w (without_fork f (worker_in ws w)) (Some (right_node f)) low)) (turned_workers first k on ws old w x run false fit some low left off))
   turns_to x run true fit some left off =
       let f = fork_of x in
@@ -168,9 +168,9 @@ module _ {A : Type 0} (s : Strands A) (first : List ℤ) (n : Simulation A) (w :
       let low_v : w < length vs = omega (arith, length-set ws w back, low) in
       let waits : waiting (worker_in vs w) ≡ forks_around z p = ap (λ v. waiting v) (worker_here ws w back low) ∙ waits_back first k on ws old w x run true fit some low left off in
       let joined = join_workers first z on_z vs turned w r run_r true fit_r f fork unjoined join low_v waits in
-      by_event first (goes_to_right s w f true o) z (event.Finish r true) fit_r
-      (by_event first (goes_to_right s w f true o) (after_event z (event.Finish r true)) (event.Join f) join
-      (goes_on_there first (goes_to_right s w f true o) (join_goes first z on_z vs turned w r run_r true fit_r f fork unjoined join)
+      by_event first (go_to_right s w f true o) z (event.Finish r true) fit_r
+      (by_event first (go_to_right s w f true o) (after_event z (event.Finish r true)) (event.Join f) join
+      (goes_on_there first (go_to_right s w f true o) (join_goes first z on_z vs turned w r run_r true fit_r f fork unjoined join)
       (subst (λ us. AreWorkers (after_event (after_event z (event.Finish r true)) (event.Join f)) us) (set_run ws w back (Some p) low ∙ sym (set_run ws w (without_fork f here) (Some p) low)) joined)))
 
   module _ (x : ℕ) (run : (worker_in ws w).runs ≡ Some x) (dead : Bool) (fit : fits k (event.Finish x dead) ≡ true) (some : 0 < x) where
@@ -186,19 +186,19 @@ module _ {A : Type 0} (s : Strands A) (first : List ℤ) (n : Simulation A) (w :
     abbrev both : Bool
     both = has_finished ended.machine (left_node forked) && has_finished ended.machine (right_node forked)
 
-    meets_to : ToMeet first k on ws old w x run dead fit some low → GoesTo first ended (joins_or_idles s w forked both o)
+    meets_to : ToMeet first k on ws old w x run dead fit some low → GoesTo first ended (join_or_idle s w forked both o)
     meets_to side = by both refl where
-      by : (b : Bool) → both ≡ b → GoesTo first ended (joins_or_idles s w forked b o)
-      by false e = goes_on_there first (joins_or_idles s w forked false o) (finish_goes first k on ws old w x run dead fit) (idle_workers first k on ws old w x run dead fit some low side e)
+      by : (b : Bool) → both ≡ b → GoesTo first ended (join_or_idle s w forked b o)
+      by false e = goes_on_there first (join_or_idle s w forked false o) (finish_goes first k on ws old w x run dead fit) (idle_workers first k on ws old w x run dead fit some low side e)
       by true e =
           let p = and_parts (has_finished ended.machine (left_node forked)) (has_finished ended.machine (right_node forked)) e in
           let join = join_fits_here first k on ws old w x run dead fit some p.0 p.1 in
           let fork = fork_here first k on ws old w x run dead fit some in
           let unjoined = unjoined_here first k on ws old w x run dead fit some in
-          by_event first (joins_or_idles s w forked true o) ended (event.Join forked) join
-          (goes_on_there first (joins_or_idles s w forked true o) (join_goes first k on ws old w x run dead fit forked fork unjoined join) (met_workers first k on ws old w x run dead fit some low join side))
+          by_event first (join_or_idle s w forked true o) ended (event.Join forked) join
+          (goes_on_there first (join_or_idle s w forked true o) (join_goes first k on ws old w x run dead fit forked fork unjoined join) (met_workers first k on ws old w x run dead fit some low join side))
 
-    follows_to : GoesTo first ended (cond (nat_eq x (left_node forked) && not (is_split k forked)) (goes_to_right s w forked dead o) (joins_or_idles s w forked both o))
+    follows_to : GoesTo first ended (cond (nat_eq x (left_node forked) && not (is_split k forked)) (go_to_right s w forked dead o) (join_or_idle s w forked both o))
     follows_to = by (nat_eq x (left_node forked)) (is_split k forked) refl refl where
       tree : IsTree k.machine.tree
       tree = (well first k on.core).sound.tree
@@ -206,7 +206,7 @@ module _ {A : Type 0} (s : Strands A) (first : List ℤ) (n : Simulation A) (w :
       strand : is_strand k.machine.tree x ≡ true
       strand = strand_here first k on ws old w x run
 
-      by : (a b : Bool) → nat_eq x (left_node forked) ≡ a → is_split k forked ≡ b → GoesTo first ended (cond (a && not b) (goes_to_right s w forked dead o) (joins_or_idles s w forked both o))
+      by : (a b : Bool) → nat_eq x (left_node forked) ≡ a → is_split k forked ≡ b → GoesTo first ended (cond (a && not b) (go_to_right s w forked dead o) (join_or_idle s w forked both o))
       by true false p q = turns_to x run dead fit some (eqb-true x (left_node forked) p) q
       by true true p q = meets_to (inl q)
       by false b p q = elim (which k.machine.tree tree on.forks forked (fork_here first k on ws old w x run dead fit some) x some (strand_there k.machine.tree x strand) refl) [
@@ -214,6 +214,6 @@ module _ {A : Type 0} (s : Strands A) (first : List ℤ) (n : Simulation A) (w :
         | inr e ↦ meets_to (inr e)
       ]
 
-  pub finishes_to : (x : ℕ) → (worker_in ws w).runs ≡ Some x → (dead : Bool) → fits k (event.Finish x dead) ≡ true → GoesTo first k (finishes s w x dead n)
-  finishes_to zero run dead fit = by_event first (finishes s w zero dead n) k (event.Finish zero dead) fit (main_ended first (finishes s w zero dead n) (or_left (nat_eq 0 0) (has_finished k.machine 0) refl))
-  finishes_to (suc y) run dead fit = by_event first (finishes s w (suc y) dead n) k (event.Finish (suc y) dead) fit (follows_to (suc y) run dead fit (omega arith))
+  pub finishes_to : (x : ℕ) → (worker_in ws w).runs ≡ Some x → (dead : Bool) → fits k (event.Finish x dead) ≡ true → GoesTo first k (finish_strand s w x dead n)
+  finishes_to zero run dead fit = by_event first (finish_strand s w zero dead n) k (event.Finish zero dead) fit (main_ended first (finish_strand s w zero dead n) (or_left (nat_eq 0 0) (has_finished k.machine 0) refl))
+  finishes_to (suc y) run dead fit = by_event first (finish_strand s w (suc y) dead n) k (event.Finish (suc y) dead) fit (follows_to (suc y) run dead fit (omega arith))

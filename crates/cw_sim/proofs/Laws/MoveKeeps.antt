@@ -4,7 +4,7 @@ use Rattle.std.specs.Prelude.{ℤ}
 use Rattle.cw_strand.specs.Strands.{Strands}
 use Rattle.cw_open.specs.Machine.{is_dying}
 use Rattle.cw_sim.specs.Workers.{Simulation, worker}
-use Rattle.cw_sim.specs.Moves.{is_run_over, others, steals, dies, acts, move}
+use Rattle.cw_sim.specs.Moves.{is_run_over, others, steal, die, do_want, move}
 use Rattle.cw_sim.specs.Kept.{AreWorkers, CoreGoesOn}
 use Rattle.cw_sim.specs.Laws.{AreStrands, ComesByEvents}
 use Rattle.cw_sim.specs.HasWants.{HasWants}
@@ -13,11 +13,11 @@ use Rattle.cw_sim.proofs.Laws.MoveSteals.{steals_to}
 use Rattle.cw_sim.proofs.Laws.Moving.{GoesTo}
 
 module _ {A : Type 0} (s : Strands A) (first : List ℤ) (m : Simulation A) (w : ℕ) (low : w < length m.workers) (on : CoreGoesOn first m.core) (old : AreWorkers m.core m.workers) (wants : HasWants s (length first) m) where
-  runs_to : (x : ℕ) → (worker m w).runs ≡ Some x → (b : Bool) → is_dying m.core.machine x ≡ b → GoesTo first m.core (cond b (dies s w x m) (acts s w x (s.want (m.at x)) m))
+  runs_to : (x : ℕ) → (worker m w).runs ≡ Some x → (b : Bool) → is_dying m.core.machine x ≡ b → GoesTo first m.core (cond b (die s w x m) (do_want s w x (s.want (m.at x)) m))
   runs_to x e true q = dies_to s first m w low on old x e q
   runs_to x e false q = acts_to s first m w low on old x e q wants (s.want (m.at x)) refl
 
-  moves_by : (o : Option ℕ) → (worker m w).runs ≡ o → GoesTo first m.core (elim o [ None ↦ steals w (others m w) m | Some x ↦ cond (is_dying m.core.machine x) (dies s w x m) (acts s w x (s.want (m.at x)) m) ])
+  moves_by : (o : Option ℕ) → (worker m w).runs ≡ o → GoesTo first m.core (elim o [ None ↦ steal w (others m w) m | Some x ↦ cond (is_dying m.core.machine x) (die s w x m) (do_want s w x (s.want (m.at x)) m) ])
   moves_by None e = steals_to first m w low on old e (others m w)
   moves_by (Some x) e = runs_to x e (is_dying m.core.machine x) refl
 

@@ -8,7 +8,7 @@ use Rattle.cw_core.specs.declared.event.Event.TheVariants as event
 use Rattle.cw_core.specs.State.{CoreState}
 use Rattle.cw_core.specs.Events.{after_event}
 use Rattle.cw_sim.specs.Workers.{Worker, Simulation, waiting, right_node, worker_in, worker}
-use Rattle.cw_sim.specs.Moves.{takes, steals}
+use Rattle.cw_sim.specs.Moves.{take_fork, steal}
 use Rattle.cw_sim.specs.Kept.{IsIdle, Fits, AreWorkers, CoreGoesOn}
 use Rattle.cw_sim.proofs.Laws.EventsFit.{IsRobbed, robbed_here, has_here, columns_here, early_here, unfinished_here, split_fits_here}
 use Rattle.cw_sim.proofs.Laws.Moving.{GoesTo, goes_on_there, by_event}
@@ -98,15 +98,15 @@ module _ (first : List ℤ) (k : CoreState) (on : CoreGoesOn first k) (ws : List
 -- ## The move
 
 module _ {A : Type 0} (first : List ℤ) (n : Simulation A) (w : ℕ) (low : w < length n.workers) (on : CoreGoesOn first n.core) (old : AreWorkers n.core n.workers) (idles : (worker n w).runs ≡ None) where
-  takes_to : (v f : ℕ) (fs : List ℕ) → (worker n v).deque ≡ f ∷ fs → GoesTo first n.core (takes w v f fs n)
+  takes_to : (v f : ℕ) (fs : List ℕ) → (worker n v).deque ≡ f ∷ fs → GoesTo first n.core (take_fork w v f fs n)
   takes_to v f fs e =
-      by_event first (takes w v f fs n) n.core (event.Split f) (split_fits_here first n.core on n.workers old v f fs e)
-      (goes_on_there first (takes w v f fs n) (split_goes first n.core on n.workers old w v f fs low idles e) (thief_workers first n.core on n.workers old w v f fs low idles e))
+      by_event first (take_fork w v f fs n) n.core (event.Split f) (split_fits_here first n.core on n.workers old v f fs e)
+      (goes_on_there first (take_fork w v f fs n) (split_goes first n.core on n.workers old w v f fs low idles e) (thief_workers first n.core on n.workers old w v f fs low idles e))
 
-  steals_from : (v : ℕ) (us : List ℕ) → GoesTo first n.core (steals w us n) → (d : List ℕ) → (worker n v).deque ≡ d → GoesTo first n.core (elim d [ [] ↦ steals w us n | f ∷ fs ↦ takes w v f fs n ])
+  steals_from : (v : ℕ) (us : List ℕ) → GoesTo first n.core (steal w us n) → (d : List ℕ) → (worker n v).deque ≡ d → GoesTo first n.core (elim d [ [] ↦ steal w us n | f ∷ fs ↦ take_fork w v f fs n ])
   steals_from v us rest [] e = rest
   steals_from v us rest (f ∷ fs) e = takes_to v f fs e
 
-  pub steals_to : (us : List ℕ) → GoesTo first n.core (steals w us n)
+  pub steals_to : (us : List ℕ) → GoesTo first n.core (steal w us n)
   steals_to [] = goes_on_there first n on old
   steals_to (v ∷ us) = steals_from v us (steals_to us) (worker n v).deque refl

@@ -19,7 +19,7 @@ use Rattle.cw_core.specs.declared.event.Reply.TheVariants as reply
 use Rattle.cw_core.specs.State.{is_split, spent}
 use Rattle.cw_core.specs.Events.{reply_to, after_event}
 use Rattle.cw_sim.specs.Workers.{Simulation, left_node, right_node, tree, worker, with_strand}
-use Rattle.cw_sim.specs.Moves.{is_run_over, does, others, steals, takes, goes_to_right, joins_or_idles, finishes, follows, dies, meets_cell, stops_if_spent, acts, move, after_moves}
+use Rattle.cw_sim.specs.Moves.{is_run_over, does, others, steal, take_fork, go_to_right, join_or_idle, finish_strand, follow_up, die, meets_cell, stop_if_spent, do_want, move, after_moves}
 use Rattle.cw_sim.specs.Kept.{Fits, Runs, IsKept}
 use Rattle.cw_sim.specs.Laws.{AreStrands}
 use Rattle.cw_sim.proofs.Laws.MoveNumbers.{move_number}
@@ -34,22 +34,22 @@ module _ {A : Type 0} (s : Strands A) where
 
   -- ## What stops nothing
 
-  steals_on : (w : ℕ) (vs : List ℕ) (m : Simulation A) → stopped (steals w vs m) ≡ stopped m
+  steals_on : (w : ℕ) (vs : List ℕ) (m : Simulation A) → stopped (steal w vs m) ≡ stopped m
   steals_on w [] m = refl
   steals_on w (v ∷ vs) m = by (worker m v).deque (steals_on w vs m) where
-    by : (fs : List ℕ) → stopped (steals w vs m) ≡ stopped m → stopped (elim fs [ [] ↦ steals w vs m | f ∷ fs ↦ takes w v f fs m ]) ≡ stopped m
+    by : (fs : List ℕ) → stopped (steal w vs m) ≡ stopped m → stopped (elim fs [ [] ↦ steal w vs m | f ∷ fs ↦ take_fork w v f fs m ]) ≡ stopped m
     by [] e = e
     by (f ∷ fs) e = refl
 
-  turns_on : (w f : ℕ) (dead : Bool) (m : Simulation A) → stopped (goes_to_right s w f dead m) ≡ stopped m
+  turns_on : (w f : ℕ) (dead : Bool) (m : Simulation A) → stopped (go_to_right s w f dead m) ≡ stopped m
   turns_on w f false m = refl
   turns_on w f true m = refl
 
-  meets_on : (w f : ℕ) (both : Bool) (m : Simulation A) → stopped (joins_or_idles s w f both m) ≡ stopped m
+  meets_on : (w f : ℕ) (both : Bool) (m : Simulation A) → stopped (join_or_idle s w f both m) ≡ stopped m
   meets_on w f false m = refl
   meets_on w f true m = refl
 
-  follows_on : (w x : ℕ) (dead : Bool) (m : Simulation A) → stopped (follows s w x dead m) ≡ stopped m
+  follows_on : (w x : ℕ) (dead : Bool) (m : Simulation A) → stopped (follow_up s w x dead m) ≡ stopped m
   follows_on w zero dead m = refl
   follows_on w (suc x) dead m = by (nat_eq (suc x) (left_node f) && not (is_split m.core f)) where
     f : ℕ
@@ -58,13 +58,13 @@ module _ {A : Type 0} (s : Strands A) where
     both : Bool
     both = has_finished m.core.machine (left_node f) && has_finished m.core.machine (right_node f)
 
-    by : (b : Bool) → stopped (cond b (goes_to_right s w f dead m) (joins_or_idles s w f both m)) ≡ stopped m
+    by : (b : Bool) → stopped (cond b (go_to_right s w f dead m) (join_or_idle s w f both m)) ≡ stopped m
     by true = turns_on w f dead m
     by false = meets_on w f both m
 
-  dies_on : (w x : ℕ) (m : Simulation A) → stopped (dies s w x m) ≡ stopped m
+  dies_on : (w x : ℕ) (m : Simulation A) → stopped (die s w x m) ≡ stopped m
   dies_on w x m = by (in_block m.core.machine x) where
-    by : (b : Bool) → stopped (cond b (with_strand x (m.saved (place (tree m) x)) (does (event.Roll x) m)) (finishes s w x true m)) ≡ stopped m
+    by : (b : Bool) → stopped (cond b (with_strand x (m.saved (place (tree m) x)) (does (event.Roll x) m)) (finish_strand s w x true m)) ≡ stopped m
     by true = refl
     by false = follows_on w x true (does (event.Finish x true) m)
 
@@ -82,7 +82,7 @@ module _ {A : Type 0} (s : Strands A) where
     goes_on : (z : Simulation A) → stopped z ≡ stopped m → Stops z → ⊥
     goes_on z same e = absurd (cc (same, on, e))
 
-    stops_not : (z : Simulation A) → stopped z ≡ stopped m → Stops (stops_if_spent s z) → ⊥
+    stops_not : (z : Simulation A) → stopped z ≡ stopped m → Stops (stop_if_spent s z) → ⊥
     stops_not z same = by (spent z.core) where
       by : (o : Option ℕ) → Stops (option_map_or (λ x. does (event.Stop (halt.Budget x)) z) o z) → ⊥
       by None e = goes_on z same e
@@ -92,7 +92,7 @@ module _ {A : Type 0} (s : Strands A) where
     cell_not x write (reply.Value v) z same e = goes_on z same e
     cell_not x write r z same e = stops_not z same e
 
-    acts_fault : (w x : ℕ) (want : Want) → (worker m w).runs ≡ Some x → Stops (acts s w x want m) → Faults w m (acts s w x want m) y kind
+    acts_fault : (w x : ℕ) (want : Want) → (worker m w).runs ≡ Some x → Stops (do_want s w x want m) → Faults w m (do_want s w x want m) y kind
     acts_fault w x (Load c) q e = absurd (cell_not x None (reply_to m.core (event.Access x c None)) (does (event.Access x c None) m) refl e)
     acts_fault w x (Store c v) q e = absurd (cell_not x (Some v) (reply_to m.core (event.Access x c (Some v))) (does (event.Access x c (Some v)) m) refl e)
     acts_fault w x (Out v) q e = absurd (cc (on, e))
@@ -100,8 +100,8 @@ module _ {A : Type 0} (s : Strands A) where
     acts_fault w x End q e = absurd (cc (on, e))
     acts_fault w x Cancel q e = absurd (cc (on, e))
     acts_fault w x Fork q e = absurd (cc (on, e))
-    acts_fault w x Sync q e = absurd (goes_on (acts s w x Sync m) (follows_on w x false (does (event.Finish x false) m)) e)
-    acts_fault w x Done q e = absurd (goes_on (acts s w x Done m) (follows_on w x false (does (event.Finish x false) m)) e)
+    acts_fault w x Sync q e = absurd (goes_on (do_want s w x Sync m) (follows_on w x false (does (event.Finish x false) m)) e)
+    acts_fault w x Done q e = absurd (goes_on (do_want s w x Done m) (follows_on w x false (does (event.Finish x false) m)) e)
     acts_fault w x (Fault k) q e =
         let same : x ≡ y = cc e in
         let like : k ≡ kind = cc e in
@@ -109,13 +109,13 @@ module _ {A : Type 0} (s : Strands A) where
 
     pub move_fault : (w : ℕ) → Stops (move s w m) → Faults w m (move s w m) y kind
     move_fault w = by (worker m w).runs refl where
-      runs : (x : ℕ) → (worker m w).runs ≡ Some x → (b : Bool) → Stops (cond b (dies s w x m) (acts s w x (s.want (m.at x)) m)) → Faults w m (cond b (dies s w x m) (acts s w x (s.want (m.at x)) m)) y kind
-      runs x q true e = absurd (goes_on (dies s w x m) (dies_on w x m) e)
+      runs : (x : ℕ) → (worker m w).runs ≡ Some x → (b : Bool) → Stops (cond b (die s w x m) (do_want s w x (s.want (m.at x)) m)) → Faults w m (cond b (die s w x m) (do_want s w x (s.want (m.at x)) m)) y kind
+      runs x q true e = absurd (goes_on (die s w x m) (dies_on w x m) e)
       runs x q false e = acts_fault w x (s.want (m.at x)) q e
 
-      by : (o : Option ℕ) → (worker m w).runs ≡ o → Stops (elim o [ None ↦ steals w (others m w) m | Some x ↦ cond (is_dying m.core.machine x) (dies s w x m) (acts s w x (s.want (m.at x)) m) ])
-          → Faults w m (elim o [ None ↦ steals w (others m w) m | Some x ↦ cond (is_dying m.core.machine x) (dies s w x m) (acts s w x (s.want (m.at x)) m) ]) y kind
-      by None q e = absurd (goes_on (steals w (others m w) m) (steals_on w (others m w) m) e)
+      by : (o : Option ℕ) → (worker m w).runs ≡ o → Stops (elim o [ None ↦ steal w (others m w) m | Some x ↦ cond (is_dying m.core.machine x) (die s w x m) (do_want s w x (s.want (m.at x)) m) ])
+          → Faults w m (elim o [ None ↦ steal w (others m w) m | Some x ↦ cond (is_dying m.core.machine x) (die s w x m) (do_want s w x (s.want (m.at x)) m) ]) y kind
+      by None q e = absurd (goes_on (steal w (others m w) m) (steals_on w (others m w) m) e)
       by (Some x) q e = runs x q (is_dying m.core.machine x) e
 
   -- ## Moves one after another

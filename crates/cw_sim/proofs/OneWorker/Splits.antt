@@ -15,7 +15,7 @@ use Rattle.cw_core.specs.declared.event.Reply.TheVariants as reply
 use Rattle.cw_core.specs.State.{is_split, spent}
 use Rattle.cw_core.specs.Events.{reply_to}
 use Rattle.cw_sim.specs.Workers.{Simulation, left_node, right_node, tree, worker, with_strand}
-use Rattle.cw_sim.specs.Moves.{is_run_over, does, others, steals, goes_to_right, joins_or_idles, finishes, follows, dies, meets_cell, stops_if_spent, acts, move, after_moves}
+use Rattle.cw_sim.specs.Moves.{is_run_over, does, others, steal, go_to_right, join_or_idle, finish_strand, follow_up, die, meets_cell, stop_if_spent, do_want, move, after_moves}
 use Rattle.cw_sim.specs.OneWorker.{OneSplitsNone}
 use Rattle.cw_sim.proofs.Laws.MoveNumbers.{move_number}
 
@@ -23,15 +23,15 @@ module _ {A : Type 0} (s : Strands A) where
   abbrev splits : Simulation A → List ℕ
   splits m = m.core.splits
 
-  turns_splits : (w f : ℕ) (dead : Bool) (m : Simulation A) → splits (goes_to_right s w f dead m) ≡ splits m
+  turns_splits : (w f : ℕ) (dead : Bool) (m : Simulation A) → splits (go_to_right s w f dead m) ≡ splits m
   turns_splits w f false m = refl
   turns_splits w f true m = refl
 
-  meets_splits : (w f : ℕ) (both : Bool) (m : Simulation A) → splits (joins_or_idles s w f both m) ≡ splits m
+  meets_splits : (w f : ℕ) (both : Bool) (m : Simulation A) → splits (join_or_idle s w f both m) ≡ splits m
   meets_splits w f false m = refl
   meets_splits w f true m = refl
 
-  follows_splits : (w x : ℕ) (dead : Bool) (m : Simulation A) → splits (follows s w x dead m) ≡ splits m
+  follows_splits : (w x : ℕ) (dead : Bool) (m : Simulation A) → splits (follow_up s w x dead m) ≡ splits m
   follows_splits w zero dead m = refl
   follows_splits w (suc x) dead m = by (nat_eq (suc x) (left_node f) && not (is_split m.core f)) where
     f : ℕ
@@ -40,17 +40,17 @@ module _ {A : Type 0} (s : Strands A) where
     both : Bool
     both = has_finished m.core.machine (left_node f) && has_finished m.core.machine (right_node f)
 
-    by : (b : Bool) → splits (cond b (goes_to_right s w f dead m) (joins_or_idles s w f both m)) ≡ splits m
+    by : (b : Bool) → splits (cond b (go_to_right s w f dead m) (join_or_idle s w f both m)) ≡ splits m
     by true = turns_splits w f dead m
     by false = meets_splits w f both m
 
-  dies_splits : (w x : ℕ) (m : Simulation A) → splits (dies s w x m) ≡ splits m
+  dies_splits : (w x : ℕ) (m : Simulation A) → splits (die s w x m) ≡ splits m
   dies_splits w x m = by (in_block m.core.machine x) where
-    by : (b : Bool) → splits (cond b (with_strand x (m.saved (place (tree m) x)) (does (event.Roll x) m)) (finishes s w x true m)) ≡ splits m
+    by : (b : Bool) → splits (cond b (with_strand x (m.saved (place (tree m) x)) (does (event.Roll x) m)) (finish_strand s w x true m)) ≡ splits m
     by true = refl
     by false = follows_splits w x true (does (event.Finish x true) m)
 
-  stops_splits : (m : Simulation A) → splits (stops_if_spent s m) ≡ splits m
+  stops_splits : (m : Simulation A) → splits (stop_if_spent s m) ≡ splits m
   stops_splits m = by (spent m.core) where
     by : (o : Option ℕ) → splits (option_map_or (λ x. does (event.Stop (halt.Budget x)) m) o m) ≡ splits m
     by None = refl
@@ -60,7 +60,7 @@ module _ {A : Type 0} (s : Strands A) where
   meets_cell_splits x write (reply.Value v) m = refl
   meets_cell_splits x write r m = stops_splits m
 
-  acts_splits : (w x : ℕ) (want : Want) (m : Simulation A) → splits (acts s w x want m) ≡ splits m
+  acts_splits : (w x : ℕ) (want : Want) (m : Simulation A) → splits (do_want s w x want m) ≡ splits m
   acts_splits w x (Load c) m = meets_cell_splits x None (reply_to m.core (event.Access x c None)) (does (event.Access x c None) m)
   acts_splits w x (Store c v) m = meets_cell_splits x (Some v) (reply_to m.core (event.Access x c (Some v))) (does (event.Access x c (Some v)) m)
   acts_splits w x (Out v) m = refl
@@ -78,12 +78,12 @@ module _ {A : Type 0} (s : Strands A) where
 
   pub one_splits_none : OneSplitsNone s
   one_splits_none m w one = by (worker m w).runs where
-    runs_splits : (x : ℕ) (b : Bool) → splits (cond b (dies s w x m) (acts s w x (s.want (m.at x)) m)) ≡ splits m
+    runs_splits : (x : ℕ) (b : Bool) → splits (cond b (die s w x m) (do_want s w x (s.want (m.at x)) m)) ≡ splits m
     runs_splits x true = dies_splits w x m
     runs_splits x false = acts_splits w x (s.want (m.at x)) m
 
-    by : (o : Option ℕ) → splits (elim o [ None ↦ steals w (others m w) m | Some x ↦ cond (is_dying m.core.machine x) (dies s w x m) (acts s w x (s.want (m.at x)) m) ]) ≡ splits m
-    by None = ap (λ us. splits (steals w us m)) (no_others m w one)
+    by : (o : Option ℕ) → splits (elim o [ None ↦ steal w (others m w) m | Some x ↦ cond (is_dying m.core.machine x) (die s w x m) (do_want s w x (s.want (m.at x)) m) ]) ≡ splits m
+    by None = ap (λ us. splits (steal w us m)) (no_others m w one)
     by (Some x) = runs_splits x (is_dying m.core.machine x)
 
   pub moves_split_none : (turn : ℕ → ℕ) (k n : ℕ) (m : Simulation A) → length m.workers ≡ 1 → splits (after_moves s turn k n m) ≡ splits m

@@ -23,7 +23,7 @@ use Rattle.cw_core.specs.Events.{is_stop, is_met, met_by, after_event}
 use Rattle.cw_core.proofs.Kept.RefusedTold.{after_refused}
 use Rattle.cw_record.specs.ClosedRun.{EndsSo}
 use Rattle.cw_sim.specs.Workers.{Simulation, left_node, right_node, tree, worker, with_strand}
-use Rattle.cw_sim.specs.Moves.{does, is_run_over, others, takes, steals, goes_to_right, joins_or_idles, follows, finishes, dies, stops_if_spent, meets_cell, accesses, acts, move}
+use Rattle.cw_sim.specs.Moves.{does, is_run_over, others, take_fork, steal, go_to_right, join_or_idle, follow_up, finish_strand, die, stop_if_spent, meets_cell, access_cell, do_want, move}
 use Rattle.cw_sim.specs.Kept.{Fits, is_current, CoreGoesOn, AreStanding}
 use Rattle.cw_sim.proofs.Kept.After.{is_finish, halt_after, finished_after}
 use Rattle.cw_sim.proofs.Runs.EndingMain.{main_lives, waits_for_none, is_there}
@@ -54,10 +54,10 @@ still_current : (k : CoreState) (y : ℕ) (kind : FaultKind) (x : ℕ) → is_cu
 still_current k y kind zero e = refl
 still_current k y kind (suc x) e = e
 
-steal_still : {A : Type 0} (w : ℕ) (vs : List ℕ) (m : Simulation A) → is_run_over (steals w vs m) ≡ is_run_over m
+steal_still : {A : Type 0} (w : ℕ) (vs : List ℕ) (m : Simulation A) → is_run_over (steal w vs m) ≡ is_run_over m
 steal_still w [] m = refl
 steal_still w (v ∷ vs) m = by (worker m v).deque (steal_still w vs m) where
-  by : (ds : List ℕ) → is_run_over (steals w vs m) ≡ is_run_over m → is_run_over (elim ds [ [] ↦ steals w vs m | f ∷ fs ↦ takes w v f fs m ]) ≡ is_run_over m
+  by : (ds : List ℕ) → is_run_over (steal w vs m) ≡ is_run_over m → is_run_over (elim ds [ [] ↦ steal w vs m | f ∷ fs ↦ take_fork w v f fs m ]) ≡ is_run_over m
   by [] more = more
   by (f ∷ fs) more = still m.core (event.Split f) refl refl
 
@@ -70,13 +70,13 @@ module _ {A : Type 0} (s : Strands A) where
   GoesOrEnds z = (is_run_over z ≡ false) ⊎ Ends z
 
   -- what follows another strand than main
-  follow : (w x : ℕ) (dead : Bool) (n : Simulation A) → is_run_over (follows s w (suc x) dead n) ≡ is_run_over n
+  follow : (w x : ℕ) (dead : Bool) (n : Simulation A) → is_run_over (follow_up s w (suc x) dead n) ≡ is_run_over n
   follow w x dead n =
       by ((nat_eq (suc x) (left_node f)) && not (is_split n.core f)) (has_finished n.core.machine (left_node f) && has_finished n.core.machine (right_node f)) dead where
         f : ℕ
         f = parent_of (tree n) (suc x)
 
-        by : (a b d : Bool) → is_run_over (cond a (goes_to_right s w f d n) (joins_or_idles s w f b n)) ≡ is_run_over n
+        by : (a b d : Bool) → is_run_over (cond a (go_to_right s w f d n) (join_or_idle s w f b n)) ≡ is_run_over n
         by true b false = refl
         by true b true = still (after_event n.core (event.Finish (right_node f) true)) (event.Join f) refl refl ∙ other n.core (right_node f) true (omega arith)
         by false false d = refl
@@ -84,23 +84,23 @@ module _ {A : Type 0} (s : Strands A) where
 
   module _ (first : List ℤ) (m : Simulation A) (on : CoreGoesOn first m.core) (off : is_run_over m ≡ false) where
     -- main comes to its end
-    main_ends : (w : ℕ) → Ends (finishes s w 0 false m)
+    main_ends : (w : ℕ) → Ends (finish_strand s w 0 false m)
     main_ends w before after reached at =
         let z = Rattle.cw_core.specs.Events.after_event m.core (event.Finish 0 false) in
         let P : Option Halt → Type 0 = λ h. EndsSo s z.machine before after reached z.budget h false in
         let lives = none_dead m.core.machine.finished 0 (or_parts (is_some m.core.halt) (has_finished m.core.machine 0) off).1 in
         subst P (sym on.halt) (and_from (has_finished z.machine 0) (not (finished_dead z.machine 0)) refl (not_from_false (finished_dead z.machine 0) lives))
 
-    finish : (w x : ℕ) (dead : Bool) → (x ≡ 0 → dead ≡ false) → GoesOrEnds (finishes s w x dead m)
+    finish : (w x : ℕ) (dead : Bool) → (x ≡ 0 → dead ≡ false) → GoesOrEnds (finish_strand s w x dead m)
     finish w zero true lives = absurd (let e = lives refl in cc e)
     finish w zero false lives = inr (main_ends w)
     finish w (suc x) dead lives = inl (follow w x dead (does (event.Finish (suc x) dead) m) ∙ other m.core (suc x) dead (omega arith) ∙ off)
 
     module _ (x : ℕ) (running : is_running m.core.machine x ≡ true) (ready : waits_for_left m.core x ≡ false) where
       -- a dying strand rolls back, or finishes, and is not main then
-      died : (w : ℕ) → is_dying m.core.machine x ≡ true → GoesOrEnds (dies s w x m)
+      died : (w : ℕ) → is_dying m.core.machine x ≡ true → GoesOrEnds (die s w x m)
       died w dying = by (in_block m.core.machine x) refl where
-        by : (b : Bool) → in_block m.core.machine x ≡ b → GoesOrEnds (cond b (with_strand x (m.saved (place (tree m) x)) (does (event.Roll x) m)) (finishes s w x true m))
+        by : (b : Bool) → in_block m.core.machine x ≡ b → GoesOrEnds (cond b (with_strand x (m.saved (place (tree m) x)) (does (event.Roll x) m)) (finish_strand s w x true m))
         by true e = inl (still m.core (event.Roll x) refl refl ∙ off)
         by false e =
             finish w x true (λ q.
@@ -118,7 +118,7 @@ module _ {A : Type 0} (s : Strands A) where
         )
 
         -- a refused access spends a budget, or none
-        refuse : (c : ℕ) (write : Option ℤ) → is_met m.core x c ≡ true → GoesOrEnds (stops_if_spent s (does (event.Access x c write) m))
+        refuse : (c : ℕ) (write : Option ℤ) → is_met m.core x c ≡ true → GoesOrEnds (stop_if_spent s (does (event.Access x c write) m))
         refuse c write e = by (spent z) refl where
           z : CoreState
           z = after_event m.core (event.Access x c write)
@@ -129,14 +129,14 @@ module _ {A : Type 0} (s : Strands A) where
               let P : CoreState → Type 0 = λ k. spent k ≡ Some y → HasSpent (record k.machine { stopped = y ∷ k.machine.stopped }) k.budget y in
               subst P (sym (after_refused m.core x c write e)) (λ r. has_spent first m.core on.core x free ready c on.spent y r (y ∷ m.core.machine.stopped)) q)
 
-        access : (c : ℕ) (write : Option ℤ) → GoesOrEnds (accesses s x c write m)
+        access : (c : ℕ) (write : Option ℤ) → GoesOrEnds (access_cell s x c write m)
         access c write = by (is_met m.core x c) refl where
           by : (b : Bool) → is_met m.core x c ≡ b
               → GoesOrEnds (meets_cell s x write (cond b (reply.Conflict (refusal m.core.machine (place m.core.machine.tree x) c (met_by m.core x c))) (reply.Value (unwrap_or write (live_value m.core.machine c)))) (does (event.Access x c write) m))
           by true e = refuse c write e
           by false e = inl (still m.core (event.Access x c write) refl refl ∙ off)
 
-        act : (w : ℕ) (q : Want) → s.want (m.at x) ≡ q → GoesOrEnds (acts s w x q m)
+        act : (w : ℕ) (q : Want) → s.want (m.at x) ≡ q → GoesOrEnds (do_want s w x q m)
         act w (want.Load c) e = access c None
         act w (want.Store c v) e = access c (Some v)
         act w (want.Out v) e = inl (still m.core (event.Out x v) refl refl ∙ off)
@@ -151,9 +151,9 @@ module _ {A : Type 0} (s : Strands A) where
     -- a move from where all is kept
     pub moved : (w : ℕ) → Fits m.core (worker m w) (worker m w).runs → GoesOrEnds (move s w m)
     moved w = by_run (worker m w).runs where
-      by_run : (r : Option ℕ) → Fits m.core (worker m w) r → GoesOrEnds (elim r [ None ↦ steals w (others m w) m | Some x ↦ cond (is_dying m.core.machine x) (dies s w x m) (acts s w x (s.want (m.at x)) m) ])
+      by_run : (r : Option ℕ) → Fits m.core (worker m w) r → GoesOrEnds (elim r [ None ↦ steal w (others m w) m | Some x ↦ cond (is_dying m.core.machine x) (die s w x m) (do_want s w x (s.want (m.at x)) m) ])
       by_run None idle = inl (steal_still w (others m w) m ∙ off)
       by_run (Some x) at = by (is_dying m.core.machine x) refl where
-        by : (b : Bool) → is_dying m.core.machine x ≡ b → GoesOrEnds (cond b (dies s w x m) (acts s w x (s.want (m.at x)) m))
+        by : (b : Bool) → is_dying m.core.machine x ≡ b → GoesOrEnds (cond b (die s w x m) (do_want s w x (s.want (m.at x)) m))
         by true e = died x at.running at.ready w e
         by false e = act x at.running at.ready (and_from (is_running m.core.machine x) (not (is_dying m.core.machine x)) at.running (not_from_false (is_dying m.core.machine x) e)) w (s.want (m.at x)) refl

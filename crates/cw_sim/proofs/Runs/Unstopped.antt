@@ -26,7 +26,7 @@ use Rattle.cw_record.specs.Built.{memory_left, outputs_left}
 use Rattle.cw_record.specs.ClosedRun.{end_after}
 use Rattle.cw_sim.specs.Workers.{Simulation, left_node, right_node, first_simulation, tree, worker}
 use Rattle.cw_sim.specs.Turns.{worker_at}
-use Rattle.cw_sim.specs.Moves.{accesses, acts, after_moves, dies, does, follows, is_run_over, joins_or_idles, meets_cell, move, others, steals, stops_if_spent, takes, goes_to_right}
+use Rattle.cw_sim.specs.Moves.{access_cell, do_want, after_moves, die, does, follow_up, is_run_over, join_or_idle, meets_cell, move, others, steal, stop_if_spent, take_fork, go_to_right}
 use Rattle.cw_sim.specs.Runs.{IsRecordOf, closed_of, simulation_of}
 
 -- what an end tells of the moves, where it is not for want of memory
@@ -48,37 +48,37 @@ module _ {A : Type 0} where
   by_test true m n g h = g
   by_test false m n g h = h
 
-  steals_goes : (w : ℕ) (vs : List ℕ) (m : Simulation A) → Goes m → Goes (steals w vs m)
+  steals_goes : (w : ℕ) (vs : List ℕ) (m : Simulation A) → Goes m → Goes (steal w vs m)
   steals_goes w [] m g = g
   steals_goes w (v ∷ vs) m g = by_deque (worker m v).deque (steals_goes w vs m g)
     where
-      by_deque : (d : List ℕ) → Goes (steals w vs m) → Goes (elim d [ [] ↦ steals w vs m | f ∷ fs ↦ takes w v f fs m ])
+      by_deque : (d : List ℕ) → Goes (steal w vs m) → Goes (elim d [ [] ↦ steal w vs m | f ∷ fs ↦ take_fork w v f fs m ])
       by_deque [] h = h
       by_deque (f ∷ fs) h = g
 
   module _ (s : Strands A) where
-    follows_goes : (w x : ℕ) (dead : Bool) (m : Simulation A) → Goes m → Goes (follows s w x dead m)
+    follows_goes : (w x : ℕ) (dead : Bool) (m : Simulation A) → Goes m → Goes (follow_up s w x dead m)
     follows_goes w zero dead m g = g
     follows_goes w (suc x) dead m g =
         let f = parent_of (tree m) (suc x) in
         by_test ((suc x == left_node f) && not (is_split m.core f)) _ _ (by_dead f dead) (by_both f (has_finished m.core.machine (left_node f) && has_finished m.core.machine (right_node f)))
       where
-        by_dead : (f : ℕ) (d : Bool) → Goes (goes_to_right s w f d m)
+        by_dead : (f : ℕ) (d : Bool) → Goes (go_to_right s w f d m)
         by_dead f false = g
         by_dead f true = g
 
-        by_both : (f : ℕ) (b : Bool) → Goes (joins_or_idles s w f b m)
+        by_both : (f : ℕ) (b : Bool) → Goes (join_or_idle s w f b m)
         by_both f false = g
         by_both f true = g
 
-    access_goes : (x c : ℕ) (write : Option ℤ) (m : Simulation A) → Goes m → Goes (accesses s x c write m)
+    access_goes : (x c : ℕ) (write : Option ℤ) (m : Simulation A) → Goes m → Goes (access_cell s x c write m)
     access_goes x c write m g = by_reply (reply_to m.core (event.Access x c write)) (does (event.Access x c write) m) g
       where
         by_spent : (o : Option ℕ) (n : Simulation A) → Goes n → Goes (option_map_or (λ y. does (event.Stop (halt.Budget y)) n) o n)
         by_spent None n h = h
         by_spent (Some y) n h = λ e. cc
 
-        stops : (n : Simulation A) → Goes n → Goes (stops_if_spent s n)
+        stops : (n : Simulation A) → Goes n → Goes (stop_if_spent s n)
         stops n h = by_spent (spent n.core) n h
 
         by_reply : (r : Reply) (n : Simulation A) → Goes n → Goes (meets_cell s x write r n)
@@ -90,7 +90,7 @@ module _ {A : Type 0} where
         by_reply (reply.Early b) n h = stops n h
         by_reply (reply.Back list) n h = stops n h
 
-    acts_goes : (w x : ℕ) (a : Want) (m : Simulation A) → Goes m → Goes (acts s w x a m)
+    acts_goes : (w x : ℕ) (a : Want) (m : Simulation A) → Goes m → Goes (do_want s w x a m)
     acts_goes w x (want.Load c) m g = access_goes x c None m g
     acts_goes w x (want.Store c v) m g = access_goes x c (Some v) m g
     acts_goes w x (want.Out v) m g = g
@@ -102,13 +102,13 @@ module _ {A : Type 0} where
     acts_goes w x want.Done m g = follows_goes w x false (does (event.Finish x false) m) g
     acts_goes w x (want.Fault kind) m g = λ e. cc
 
-    dies_goes : (w x : ℕ) (m : Simulation A) → Goes m → Goes (dies s w x m)
+    dies_goes : (w x : ℕ) (m : Simulation A) → Goes m → Goes (die s w x m)
     dies_goes w x m g = by_test (in_block m.core.machine x) _ _ g (follows_goes w x true (does (event.Finish x true) m) g)
 
     move_goes : (w : ℕ) (m : Simulation A) → Goes m → Goes (move s w m)
     move_goes w m g = by_run (worker m w).runs
       where
-        by_run : (o : Option ℕ) → Goes (elim o [ None ↦ steals w (others m w) m | Some x ↦ if is_dying m.core.machine x then dies s w x m else acts s w x (s.want (m.at x)) m ])
+        by_run : (o : Option ℕ) → Goes (elim o [ None ↦ steal w (others m w) m | Some x ↦ if is_dying m.core.machine x then die s w x m else do_want s w x (s.want (m.at x)) m ])
         by_run None = steals_goes w (others m w) m g
         by_run (Some x) = by_test (is_dying m.core.machine x) _ _ (dies_goes w x m g) (acts_goes w x (s.want (m.at x)) m g)
 

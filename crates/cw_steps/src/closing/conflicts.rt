@@ -11,7 +11,7 @@ use cw_tree::Conflict;
 use std::alloc::Global;
 
 /// Copies a conflict of the log that begins at number `base`.
-fn moved(alloc: Global, base: u32, conflict: &Conflict) -> Result<Conflict, OutOfMemory>
+fn move_conflict(alloc: Global, base: u32, conflict: &Conflict) -> Result<Conflict, OutOfMemory>
     ensures { IfOk result (λ c. c ≡ record conflict.now { asker = base + conflict.now.asker }) }
 {
     let Some(asker) = base.checked_add(conflict.asker) else {
@@ -35,7 +35,7 @@ fn add_moved(list: &mut Vec<Conflict>, base: u32, conflicts: &[Conflict]) -> Res
 {
     let alloc = *list.allocator();
     for conflict in conflicts {
-        list.push(moved(alloc, base, conflict)?)?;
+        list.push(move_conflict(alloc, base, conflict)?)?;
     }
     Ok(())
 }

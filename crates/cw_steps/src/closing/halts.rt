@@ -75,7 +75,7 @@ fn last_victim(track: &Track, column: u32) -> u64
     0
 }
 
-fn numbered(track: &Track, bases: &Bases, tree: &Tree, stop: Stop) -> Result<Halt, OutOfMemory>
+fn number_halt(track: &Track, bases: &Bases, tree: &Tree, stop: Stop) -> Result<Halt, OutOfMemory>
     requires bases { HasBases bases.now (logs_of_track track.now) }
     requires tree { tree.now ≡ tree_of (logs_of_track track.now) }
     ensures { IfOk result (λ h. Some h ≡ halt_in (logs_of_track track.now) (Some stop)) }
@@ -108,6 +108,6 @@ pub(crate) fn halt_in(
 {
     match stop {
         None => Ok(None),
-        Some(stop) => Ok(Some(numbered(track, bases, tree, stop)?)),
+        Some(stop) => Ok(Some(number_halt(track, bases, tree, stop)?)),
     }
 }

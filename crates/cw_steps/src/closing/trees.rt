@@ -12,7 +12,7 @@ use cw_base::{OutOfMemory, Seq};
 use cw_tree::{BlockState, Kind, Node, Tree};
 use std::alloc::Global;
 
-fn copied(alloc: Global, kind: &Kind) -> Result<Kind, OutOfMemory>
+fn copy_kind(alloc: Global, kind: &Kind) -> Result<Kind, OutOfMemory>
     ensures { IfOk result (λ k. k ≡ kind.now) }
 {
     Ok(match kind {
@@ -56,7 +56,7 @@ fn hang(alloc: Global, tree: &mut Tree, parent: u32, node: &Node) -> Result<(), 
     if parent as usize >= tree.nodes().len() {
         return Err(OutOfMemory);
     }
-    let number = tree.add(parent, copied(alloc, &node.kind)?, node.stamp)?;
+    let number = tree.add(parent, copy_kind(alloc, &node.kind)?, node.stamp)?;
     if tree.is_block(number) {
         tree.close(number, node.state, node.end);
         Ok(())

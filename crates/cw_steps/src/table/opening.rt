@@ -8,7 +8,7 @@ ghost use Rattle.cw_steps.specs.Views.{fresh_slot, held_by, key_of, root_view, v
 
 use super::{Shared, StrandToken};
 use crate::Track;
-use crate::law::Board;
+use crate::law::BoardTable;
 use crate::view::{Key, Slot};
 use cw_base::{OutOfMemory, Seq};
 use cw_code::Limits;
@@ -66,7 +66,7 @@ impl Shared {
         let tier = Tier::with_strands(alloc, limits.strands)?;
         slots.push(Slot::Tier(tier))?;
         let track = Track::new(alloc)?;
-        let made = Board::new(alloc, words.as_slice(), slots, &key);
+        let made = BoardTable::new(alloc, words.as_slice(), slots, &key);
         match made {
             Ok((table, seat)) => {
                 let token = StrandToken {

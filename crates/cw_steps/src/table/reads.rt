@@ -45,7 +45,7 @@ impl StrandToken {
     }
 
     /// Returns the begin stamp of the block in which the next node goes, or 0 if it goes in no block.
-    pub fn begun(&self) -> u64
+    pub fn begin_stamp(&self) -> u64
         ensures { result ≡ stamp_of (track_of self.now.track).own.nodes (track_of self.now.track).place }
     {
         self.track.stamp()
@@ -89,7 +89,7 @@ impl StrandToken {
     }
 
     /// Returns the logs of the tokens that were joined to this one, in their order.
-    pub fn joined(&self) -> &Logs
+    pub fn joined_logs(&self) -> &Logs
         ensures { result.now ≡ (track_of self.now.track).joined }
     {
         &self.track.joined
@@ -103,7 +103,7 @@ impl StrandToken {
     }
 
     /// Returns how the token was stopped, if it was.
-    pub fn noted(&self) -> Option<Halt>
+    pub fn halt(&self) -> Option<Halt>
         ensures { result ≡ halt_of self.now.stop }
     {
         match self.stop {

@@ -137,7 +137,7 @@ impl Track {
     }
 
     /// Returns where its strand stands while it waits on this side of a fork.
-    fn stands(&self, side: Side) -> Stood
+    fn position(&self, side: Side) -> Stood
         ensures { result ≡ tracks.stood_in side (track_of self.now) }
     {
         Stood {
@@ -159,7 +159,7 @@ impl Track {
         ensures kept { (self.new.spare ≡ self.old.spare) × (self.new.room ≡ self.old.room) }
     {
         let node = self.nodes.len() as u32;
-        let stood = self.stands(Side::First(node + 2));
+        let stood = self.position(Side::First(node + 2));
         let Track {
             nodes,
             strand,
@@ -189,7 +189,7 @@ impl Track {
         ensures kept { (self.new.spare ≡ self.old.spare) × (self.new.room ≡ self.old.room) }
     {
         let node = self.nodes.len() as u32;
-        let stood = self.stands(Side::Beside(left));
+        let stood = self.position(Side::Beside(left));
         let Track {
             nodes,
             strand,

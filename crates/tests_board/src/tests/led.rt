@@ -135,7 +135,7 @@ fn is_unspent(token: &StrandToken, budget: u32) -> bool
 {
     both(
         are_unspent(token.conflicts(), budget),
-        all_unspent(token.joined(), budget),
+        all_unspent(token.joined_logs(), budget),
     )
 }
 
@@ -146,7 +146,7 @@ fn is_free(token: &StrandToken) -> bool
     let blocks = token.pending();
     both(
         are_free(token.conflicts(), blocks),
-        all_free(token.joined(), blocks),
+        all_free(token.joined_logs(), blocks),
     )
 }
 

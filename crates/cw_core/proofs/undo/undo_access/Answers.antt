@@ -11,14 +11,14 @@ use Rattle.cw_tree.proofs.Walks.There.{stamp_is}
 pub index_mut-requires : goal.index_mut-requires
 index_mut-requires c =
     let here : touches c.args.tree.now c.in-Some.cell c.args.node ≡ true = touches_is c.args.tree.now c.args.node c.node-access.result.now
-    c.in-Some.cell c.node-access.ensures (sym c.in-Some.is ∙ c.accessed.ensures) c.in-Some.cell ∙ eq-eqb c.in-Some.cell c.in-Some.cell refl in
+    c.in-Some.cell c.node-access.ensures (sym c.in-Some.is ∙ c.cell_of.ensures) c.in-Some.cell ∙ eq-eqb c.in-Some.cell c.in-Some.cell refl in
     let x = c.requires.cells c.in-Some.cell here in
     omega (arith, slice_get_within c.args.cells.now.items c.in-Some.cell x.0 x.1)
 
 pub cut-requires-clause-whole : goal.cut-requires-clause-whole
 cut-requires-clause-whole c =
     let here : touches c.args.tree.now c.in-Some.cell c.args.node ≡ true = touches_is c.args.tree.now c.args.node c.node-access.result.now
-    c.in-Some.cell c.node-access.ensures (sym c.in-Some.is ∙ c.accessed.ensures) c.in-Some.cell ∙ eq-eqb c.in-Some.cell c.in-Some.cell refl in
+    c.in-Some.cell c.node-access.ensures (sym c.in-Some.is ∙ c.cell_of.ensures) c.in-Some.cell ∙ eq-eqb c.in-Some.cell c.in-Some.cell refl in
     let x = c.requires.cells c.in-Some.cell here in
     let is : c.index_mut.result.now ≡ x.0 = c.index_mut.ensures.value ∙ get_or_from_slice_get c.args.cells.now.items c.in-Some.cell x.0
     c.index_mut.result.now x.1 in
@@ -27,7 +27,7 @@ cut-requires-clause-whole c =
 pub cut-requires-clause-there : goal.cut-requires-clause-there
 cut-requires-clause-there c =
     let here : touches c.args.tree.now c.in-Some.cell c.args.node ≡ true = touches_is c.args.tree.now c.args.node c.node-access.result.now
-    c.in-Some.cell c.node-access.ensures (sym c.in-Some.is ∙ c.accessed.ensures) c.in-Some.cell ∙ eq-eqb c.in-Some.cell c.in-Some.cell refl in
+    c.in-Some.cell c.node-access.ensures (sym c.in-Some.is ∙ c.cell_of.ensures) c.in-Some.cell ∙ eq-eqb c.in-Some.cell c.in-Some.cell refl in
     let x = c.requires.cells c.in-Some.cell here in
     let is : c.index_mut.result.now ≡ x.0 = c.index_mut.ensures.value ∙ get_or_from_slice_get c.args.cells.now.items c.in-Some.cell x.0
     c.index_mut.result.now x.1 in
@@ -38,7 +38,7 @@ cut-requires-clause-there c =
 pub returns-in-Some : goal.returns-in-Some
 returns-in-Some c =
     let touched = touches_is c.args.tree.now c.args.node c.node-access.result.now c.in-Some.cell c.node-access.ensures (sym c.in-Some.is
-    ∙ c.accessed.ensures) in
+    ∙ c.cell_of.ensures) in
     let x = c.requires.cells c.in-Some.cell (touched c.in-Some.cell ∙ eq-eqb c.in-Some.cell c.in-Some.cell refl) in
     let is : c.index_mut.result.now ≡ x.0 = c.index_mut.ensures.value ∙ get_or_from_slice_get c.args.cells.now.items c.in-Some.cell x.0
     c.index_mut.result.now x.1 in

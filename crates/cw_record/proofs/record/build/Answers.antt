@@ -19,16 +19,16 @@ returns-clause-end c =
     let t = c.args.closed.tree in
     let cs = c.args.closed.conflicts in
     let budget = c.args.limits.aborts in
-    let all = c.as_slice.ensures.value ∙ c.in-Ok.ensures.items ∙ ap (λ xs. items t xs budget c.end_told-told.result) c.as_slice-conflicts.ensures in
+    let all = c.as_slice.ensures.value ∙ c.in-Ok.ensures.items ∙ ap (λ xs. items t xs budget c.end_of_run-told.result) c.as_slice-conflicts.ensures in
     c.in-Ok-end_left.ensures
-    ∙ end_is t cs budget c.args.closed.halt c.args.spent (memory_left (first_memory c.args.program.cells) c.args.closed.journals) c.end_told-told.result c.as_slice.result.now c.end_told-told.ensures all
+    ∙ end_is t cs budget c.args.closed.halt c.args.spent (memory_left (first_memory c.args.program.cells) c.args.closed.journals) c.end_of_run-told.result c.as_slice.result.now c.end_of_run-told.ensures all
 
 pub returns-clause-order : goal.returns-clause-order
 returns-clause-order c =
     let t = c.args.closed.tree in
     let cs = c.args.closed.conflicts in
     let budget = c.args.limits.aborts in
-    let told = c.end_told-told.result in
+    let told = c.end_of_run-told.result in
     let memory = memory_left (first_memory c.args.program.cells) c.args.closed.journals in
     let all = c.as_slice-2.ensures.value ∙ c.in-Ok.ensures.items ∙ ap (λ xs. items t xs budget told) c.as_slice-conflicts.ensures in
     c.in-Ok-order_through.ensures

@@ -17,6 +17,6 @@ pub returns-clause-run : goal.returns-clause-run
 returns-clause-run g c =
     let is_true : c.takes_words.result ≡ true = search rules in
     let takes = subst (λ n. TakesWords c.in_ok-program.program n) c.word_count.ensures (c.takes_words.ensures.0 is_true) in
-    let done = c.in_ok-done.ensures in
-    is_run c.args.command _ c.in_ok-program.program c.in_ok-program.ensures.its c.in_ok-program.ensures.compiled takes c.in_ok-done.field-0
+    let done = c.in_ok-run_command.ensures in
+    is_run c.args.command _ c.in_ok-program.program c.in_ok-program.ensures.its c.in_ok-program.ensures.compiled takes c.in_ok-run_command.field-0
     done.program done.words done.limits done.outputs done.tree done.numbered

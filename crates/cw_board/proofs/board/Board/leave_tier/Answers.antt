@@ -11,8 +11,8 @@ pub give-requires-clause-held : goal.give-requires-clause-held
 give-requires-clause-held c =
     let b = c.args.self.now in
     let u = c.args.token.now in
-    let v = c.tier_in.new.token in
-    let o = c.tier_in.ensures in
+    let v = c.put_tier.new.token in
+    let o = c.put_tier.ensures in
     let h = c.requires.held in
     let now = holds_other b (cells_in b) h.1 (slot.Tier c.args.tier) h.0 u v h.2 o.table o.view o.slots o.track o.token in
     subst (λ (n : ℕ). MayGive (key_of b.shared) v n c.args.home) (sym c.cells-place.ensures)
@@ -23,8 +23,8 @@ pub returns-clause-of : goal.returns-clause-of
 returns-clause-of c =
     let b = c.args.self.now in
     let u = c.args.token.now in
-    let v = c.tier_in.new.token in
-    let o = c.tier_in.ensures in
+    let v = c.put_tier.new.token in
+    let o = c.put_tier.ensures in
     let h = c.requires.held in
     let e = c.give.ensures in
     let now = holds_other b (cells_in b) h.1 (slot.Tier c.args.tier) h.0 u v h.2 o.table o.view o.slots o.track o.token in

@@ -15,23 +15,23 @@ use Rattle.cw_core.specs.declared.event.Reply.TheVariants as reply
 use Rattle.cw_core.proofs.InMemory.Cancel.{cancel_finds, touched_at, undoable, cancel_entries, cancel_backs, cancel_state, cancel_kept}
 use Rattle.cw_core.proofs.cores.Core.cancel.Goals as goal
 
-pub touched_beneath-requires-clause-there : goal.touched_beneath-requires-clause-there
-touched_beneath-requires-clause-there c =
+pub cells_beneath-requires-clause-there : goal.cells_beneath-requires-clause-there
+cells_beneath-requires-clause-there c =
     let a = c.self.inside in
     let s = c.args.strand in
     let f = cancel_finds a c.self.invariant c.args.self.now c.self.view_is s c.requires c.row-block.result c.row-block.ensures.row in
     omega (arith, f.1.at, f.1.there)
 
-pub touched_beneath-requires-clause-block : goal.touched_beneath-requires-clause-block
-touched_beneath-requires-clause-block c =
+pub cells_beneath-requires-clause-block : goal.cells_beneath-requires-clause-block
+cells_beneath-requires-clause-block c =
     let a = c.self.inside in
     let s = c.args.strand in
     let f = cancel_finds a c.self.invariant c.args.self.now c.self.view_is s c.requires c.row-block.result c.row-block.ensures.row in
     let P : ℕ → Type 0 = λ n. is_block a.tree n ≡ true in
     subst P (sym f.1.at) (pending_block a.tree (place a.tree s) (undoable a c.self.invariant s f.0).pending)
 
-pub touched_beneath-requires-clause-live : goal.touched_beneath-requires-clause-live
-touched_beneath-requires-clause-live c =
+pub cells_beneath-requires-clause-live : goal.cells_beneath-requires-clause-live
+cells_beneath-requires-clause-live c =
     let a = c.self.inside in
     let s = c.args.strand in
     let f = cancel_finds a c.self.invariant c.args.self.now c.self.view_is s c.requires c.row-block.result c.row-block.ensures.row in

@@ -19,5 +19,5 @@ returns-in-Ok-in_order-clause-journals c =
 pub returns-in-Ok-in_order-clause-halt : goal.returns-in-Ok-in_order-clause-halt
 returns-in-Ok-in_order-clause-halt c =
     c.in-Ok-in_order.ensures.halt
-    ∙ ap (λ t. halt_in_order t c.self.inside.halt) c.apart-tree.ensures.tree
+    ∙ ap (λ t. halt_in_order t c.self.inside.halt) c.into_parts-tree.ensures.tree
     ∙ ap (λ k. halt_in_order k.machine.tree k.halt) c.self.view_is

@@ -38,8 +38,8 @@ victim-victim-requires-clause-place g c =
 pub victim-victim-requires-clause-last : goal.victim-victim-requires-clause-last
 victim-victim-requires-clause-last g c = c.requires.barrier.marked
 
-pub refused-refused-requires : goal.refused-refused-requires
-refused-refused-requires g c =
+pub refusal-refused-requires : goal.refusal-refused-requires
+refusal-refused-requires g c =
     let a = c.self.inside in
     let s = c.args.strand in
     let h = finds a c.self.invariant c.args.self.now c.self.view_is s c.args.cell c.requires.fits c.args.barrier c.requires.barrier c.row-place.result c.row-place.ensures.row c.row.result c.row.ensures.row c.victim-victim.result c.victim-victim.ensures in
@@ -79,8 +79,8 @@ invariant_of-self-2 g c =
     let s = c.args.strand in
     let h = finds a c.self.invariant c.args.self.now c.self.view_is s c.args.cell c.requires.fits c.args.barrier c.requires.barrier c.row-place.result c.row-place.ensures.row c.row.result c.row.ensures.row c.victim-victim.result c.victim-victim.ensures in
     let grown : c.add.new.self ≡ a.tree ++ fresh_node (place a.tree s) (Tried c.args.cell) 0 ∷ [] = c.in_ok-asker.ensures.ok ∙ ap (λ q. a.tree ++ fresh_node q (Tried c.args.cell) 0 ∷ []) h.at in
-    let x = c.refused-refused.result in
-    let told = tells a c.args.self.now c.self.view_is s c.victim-victim.result x c.tried_tail-tail.result.tried (tried_again c.args.cell c.row.result.tail) c.refused-refused.ensures.victim c.refused-refused.ensures.attempt c.refused-refused.ensures.strand (ap (λ y. y.tried) c.tried_tail-tail.ensures) in
+    let x = c.refusal-refused.result in
+    let told = tells a c.args.self.now c.self.view_is s c.victim-victim.result x c.tried_tail-tail.result.tried (tried_again c.args.cell c.row.result.tail) c.refusal-refused.ensures.victim c.refusal-refused.ensures.attempt c.refusal-refused.ensures.strand (ap (λ y. y.tried) c.tried_tail-tail.ensures) in
     let at = slice_get_read a.cells.items (vec_len a.cells) c.args.cell c.index.result.now (search rules) (omega (arith, cell_there a c.args.self.now c.self.view_is s c.args.cell None c.requires.fits)) c.index.ensures in
     let more = c.push_reserved.ensures.items ∙ ap (λ cs. cs ++ c.conflict_with.result ∷ []) c.reserve.ensures.items ∙ ap (λ d. a.conflicts.items ++ d ∷ []) (c.conflict_with.ensures ∙ conflict_is a c.self.invariant s c.args.cell c.args.barrier c.row-place.result c.row.result c.victim-victim.result h x told c.in_ok-asker.asker c.in_ok-asker.ensures.number c.index.result.now at c.in_ok-kept.kept.items c.in_ok-kept.ensures) in
     let v = c.victim-victim.result in
@@ -97,8 +97,8 @@ returns-clause-ok g c =
     let s = c.args.strand in
     let h = finds a c.self.invariant c.args.self.now c.self.view_is s c.args.cell c.requires.fits c.args.barrier c.requires.barrier c.row-place.result c.row-place.ensures.row c.row.result c.row.ensures.row c.victim-victim.result c.victim-victim.ensures in
     let grown : c.add.new.self ≡ a.tree ++ fresh_node (place a.tree s) (Tried c.args.cell) 0 ∷ [] = c.in_ok-asker.ensures.ok ∙ ap (λ q. a.tree ++ fresh_node q (Tried c.args.cell) 0 ∷ []) h.at in
-    let x = c.refused-refused.result in
-    let told = tells a c.args.self.now c.self.view_is s c.victim-victim.result x c.tried_tail-tail.result.tried (tried_again c.args.cell c.row.result.tail) c.refused-refused.ensures.victim c.refused-refused.ensures.attempt c.refused-refused.ensures.strand (ap (λ y. y.tried) c.tried_tail-tail.ensures) in
+    let x = c.refusal-refused.result in
+    let told = tells a c.args.self.now c.self.view_is s c.victim-victim.result x c.tried_tail-tail.result.tried (tried_again c.args.cell c.row.result.tail) c.refusal-refused.ensures.victim c.refusal-refused.ensures.attempt c.refusal-refused.ensures.strand (ap (λ y. y.tried) c.tried_tail-tail.ensures) in
     let at = slice_get_read a.cells.items (vec_len a.cells) c.args.cell c.index.result.now (search rules) (omega (arith, cell_there a c.args.self.now c.self.view_is s c.args.cell None c.requires.fits)) c.index.ensures in
     let more = c.push_reserved.ensures.items ∙ ap (λ cs. cs ++ c.conflict_with.result ∷ []) c.reserve.ensures.items ∙ ap (λ d. a.conflicts.items ++ d ∷ []) (c.conflict_with.ensures ∙ conflict_is a c.self.invariant s c.args.cell c.args.barrier c.row-place.result c.row.result c.victim-victim.result h x told c.in_ok-asker.asker c.in_ok-asker.ensures.number c.index.result.now at c.in_ok-kept.kept.items c.in_ok-kept.ensures) in
     λ write. (refused_view a c.self.invariant s c.args.cell c.args.barrier c.row-place.result c.row.result c.victim-victim.result h (record a { tree = c.add.new.self; rows = c.put_tried.new.table; conflicts = c.push_reserved.new.self; spent = c.or_later-self-inside.result }) grown more write ∙ ap (λ k. after_event k (event.Access s c.args.cell write)) c.self.view_is)
@@ -108,7 +108,7 @@ returns-clause-reply g c =
     let a = c.self.inside in
     let s = c.args.strand in
     let h = finds a c.self.invariant c.args.self.now c.self.view_is s c.args.cell c.requires.fits c.args.barrier c.requires.barrier c.row-place.result c.row-place.ensures.row c.row.result c.row.ensures.row c.victim-victim.result c.victim-victim.ensures in
-    let x = c.refused-refused.result in
-    let told = tells a c.args.self.now c.self.view_is s c.victim-victim.result x c.tried_tail-tail.result.tried (tried_again c.args.cell c.row.result.tail) c.refused-refused.ensures.victim c.refused-refused.ensures.attempt c.refused-refused.ensures.strand (ap (λ y. y.tried) c.tried_tail-tail.ensures) in
+    let x = c.refusal-refused.result in
+    let told = tells a c.args.self.now c.self.view_is s c.victim-victim.result x c.tried_tail-tail.result.tried (tried_again c.args.cell c.row.result.tail) c.refusal-refused.ensures.victim c.refusal-refused.ensures.attempt c.refusal-refused.ensures.strand (ap (λ y. y.tried) c.tried_tail-tail.ensures) in
     let at = slice_get_read a.cells.items (vec_len a.cells) c.args.cell c.index-2.result.now (search rules) (omega (arith, cell_there a c.args.self.now c.self.view_is s c.args.cell None c.requires.fits)) c.index-2.ensures in
     λ write. (refused_reply a c.self.invariant s c.args.cell c.args.barrier c.row-place.result c.row.result c.victim-victim.result h write c.conflict_with-2.result (c.conflict_with-2.ensures ∙ conflict_is a c.self.invariant s c.args.cell c.args.barrier c.row-place.result c.row.result c.victim-victim.result h x told c.in_ok-asker.asker c.in_ok-asker.ensures.number c.index-2.result.now at c.in_ok-chain.chain.items c.in_ok-chain.ensures) ∙ ap (λ k. reply_to k (event.Access s c.args.cell write)) c.self.view_is)

@@ -5,14 +5,14 @@ use Rattle.std.proofs.lemmas.List.{set_past}
 use Rattle.cw_serial.specs.Wants.{memory_after}
 use Rattle.cw_job.specs.Jobs.{job_of_task}
 use Rattle.cw_record.proofs.worker.Worker.do_want.Goals as goal
-use Rattle.cw_record.proofs.worker.Worker.do_want.Goals.{in-Store+in_ok-writes-in-Store, in-Some, in_default, in-Out+in_ok-push-in-Out+in_ok-outputs-in-Out, in-Begin+in_ok-begins-in-Begin, in-End+in_ok-ends-in-End}
+use Rattle.cw_record.proofs.worker.Worker.do_want.Goals.{in-Store+in_ok-add_write-in-Store, in-Some, in_default, in-Out+in_ok-push-in-Out+in_ok-add_output-in-Out, in-Begin+in_ok-begin_block-in-Begin, in-End+in_ok-end_block-in-End}
 
 pub returns-clause-acts : goal.returns-clause-acts
 returns-clause-acts c =
     let self = c.args.self.now in
     let memory = self.memory.items in
     elim c.match-want.branch [
-      | in-Store+in_ok-writes-in-Store v ↦ elim v.match-get_mut.branch [
+      | in-Store+in_ok-add_write-in-Store v ↦ elim v.match-get_mut.branch [
         | in-Some w ↦ record { task = search rules; branches = search rules; memory = search rules; outputs = search rules; undo = search rules; drawing = λ since looks. search rules }
         | in_default w ↦ (
             -- an element that is not there is not written
@@ -30,7 +30,7 @@ returns-clause-acts c =
               drawing = λ since looks. search rules;
             })
       ]
-      | in-Out+in_ok-push-in-Out+in_ok-outputs-in-Out v ↦ record { task = search rules; branches = search rules; memory = search rules; outputs = search rules; undo = search rules; drawing = λ since looks. search rules }
-      | in-Begin+in_ok-begins-in-Begin v ↦ record { task = search rules; branches = search rules; memory = search rules; outputs = search rules; undo = search rules; drawing = λ since looks. search rules }
-      | in-End+in_ok-ends-in-End v ↦ record { task = search rules; branches = search rules; memory = search rules; outputs = search rules; undo = search rules; drawing = λ since looks. search rules }
+      | in-Out+in_ok-push-in-Out+in_ok-add_output-in-Out v ↦ record { task = search rules; branches = search rules; memory = search rules; outputs = search rules; undo = search rules; drawing = λ since looks. search rules }
+      | in-Begin+in_ok-begin_block-in-Begin v ↦ record { task = search rules; branches = search rules; memory = search rules; outputs = search rules; undo = search rules; drawing = λ since looks. search rules }
+      | in-End+in_ok-end_block-in-End v ↦ record { task = search rules; branches = search rules; memory = search rules; outputs = search rules; undo = search rules; drawing = λ since looks. search rules }
     ]

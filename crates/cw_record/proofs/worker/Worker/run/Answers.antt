@@ -38,7 +38,7 @@ wants-smaller-in-Ok c =
 
 pub returns-in-None : goal.returns-in-None
 returns-in-None c =
-    finish_answer c.wants.invariant.0.1 (closes_of _ c.requires.compiled c.requires.words) (accesses_there _ c.requires.compiled) (over_by c.wants.worker c.want.ensures c.in-Sync.is) c.in-None.ensures.0 c.finished.result c.finished.ensures.drawing c.finished.ensures.end
+    finish_answer c.wants.invariant.0.1 (closes_of _ c.requires.compiled c.requires.words) (accesses_there _ c.requires.compiled) (over_by c.wants.worker c.want.ensures c.in-Sync.is) c.in-None.ensures.0 c.finish.result c.finish.ensures.drawing c.finish.ensures.end
 
 pub turn-requires : goal.turn-requires
 turn-requires c = first_fork_there c.wants.invariant.0.1 c.in-Some-Left.ensures c.in-Some-Left.field-0-is
@@ -71,14 +71,14 @@ wants-smaller-in-Ok-join c =
 
 -- ## A fault
 
-pub faulted-requires-clause-forks : goal.faulted-requires-clause-forks
-faulted-requires-clause-forks c =
+pub stop_at_fault-requires-clause-forks : goal.stop_at_fault-requires-clause-forks
+stop_at_fault-requires-clause-forks c =
     let (w, r) = c.wants.invariant.0 in
     to_come_there c.wants.worker.drawing.tree (unstarted c.wants.worker.branches) r.draws.shape
 
 pub returns-in-Fault : goal.returns-in-Fault
 returns-in-Fault c =
-    fault_answer c.wants.invariant.0.1 (closes_of _ c.requires.compiled c.requires.words) (accesses_there _ c.requires.compiled) c.in-Fault.kind (wanted_by c.wants.worker c.want.ensures c.in-Fault.is) c.faulted.result c.faulted.ensures.tree c.faulted.ensures.journals c.faulted.ensures.end
+    fault_answer c.wants.invariant.0.1 (closes_of _ c.requires.compiled c.requires.words) (accesses_there _ c.requires.compiled) c.in-Fault.kind (wanted_by c.wants.worker c.want.ensures c.in-Fault.is) c.stop_at_fault.result c.stop_at_fault.ensures.tree c.stop_at_fault.ensures.journals c.stop_at_fault.ensures.end
 
 -- ## A want that is done
 

@@ -17,7 +17,7 @@ invariant_of-token c =
       column = now.column;
       gap = now.gap;
       word = now.word;
-      halt_is = ap (λ (u : View). u.halt) same ∙ halts_kept v.halt d.seat.me.0.halt t.stop d.stop t.halt_is d.halt_is ∙ ap halt_of (sym c.kept.ensures);
+      halt_is = ap (λ (u : View). u.halt) same ∙ halts_kept v.halt d.seat.me.0.halt t.stop d.stop t.halt_is d.halt_is ∙ ap halt_of (sym c.first_stop.ensures);
       outer = now.outer;
       coming = now.coming;
       arounds = now.arounds;
@@ -29,4 +29,4 @@ returns-clause-token c =
     let t = c.args.token.now in
     let d = c.args.ending in
     let same = ap (λ m. m.0) c.join_as.ensures.seat ∙ here_both t.track.behind t.track.second t.seat.me.0 d.seat.me.0 c.requires.here.0 in
-    (λ i. stands_for (c.take_in.ensures.track i) (same i) (c.kept.ensures i)) ∙ joined_stands t.seat.me.0 t.stop (track_of t.track) (track_of d.track) d.seat.me.0 d.stop c.requires.fork
+    (λ i. stands_for (c.take_in.ensures.track i) (same i) (c.first_stop.ensures i)) ∙ joined_stands t.seat.me.0 t.stop (track_of t.track) (track_of d.track) d.seat.me.0 d.stop c.requires.fork

@@ -21,4 +21,4 @@ returns c = λ t.
     (λ k q h. none_begins blocks k.victim q (subst (λ (ns : List ℕ). Contains ns k.victim) (sym c.pending-blocks.ensures.around) h))
     _
     (All-append Q own (conflicts_in joined) (subst (λ (ks : List Conflict). All Q ks) c.conflicts.ensures (c.are_free.ensures a))
-    (all_in Q joined (subst (λ (ls : List Log). All (λ (l : Log). All Q l.conflicts) ls) c.joined.ensures (c.all_free.ensures m))))
+    (all_in Q joined (subst (λ (ls : List Log). All (λ (l : Log). All Q l.conflicts) ls) c.joined_logs.ensures (c.all_free.ensures m))))

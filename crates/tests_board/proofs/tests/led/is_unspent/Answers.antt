@@ -13,4 +13,4 @@ returns c = λ t.
     let P : Conflict → Type 0 = λ k. k.attempt ≡ c.args.budget → ⊥ in
     All-append P c.args.token.now.track.conflicts.items (conflicts_in c.args.token.now.track.joined)
     (subst (λ (ks : List Conflict). All P ks) c.conflicts.ensures (c.are_unspent.ensures a))
-    (all_in P c.args.token.now.track.joined (subst (λ (ls : List Log). All (λ (l : Log). All P l.conflicts) ls) c.joined.ensures (c.all_unspent.ensures m)))
+    (all_in P c.args.token.now.track.joined (subst (λ (ls : List Log). All (λ (l : Log). All P l.conflicts) ls) c.joined_logs.ensures (c.all_unspent.ensures m)))

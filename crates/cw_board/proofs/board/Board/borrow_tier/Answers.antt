@@ -1,0 +1,58 @@
+use Rattle.std.proofs.Common.{ℕ, refl, subst, ap, ◌∙◌}
+use Rattle.cw_steps.specs.declared.view.View.{View}
+use Rattle.cw_steps.specs.Views.{newest_aim, newest_tier, tier_of, Holding}
+use Rattle.cw_steps.specs.declared.view.Slot.TheVariants as slot
+use Rattle.cw_board.specs.Boards.{cells_in}
+use Rattle.cw_board.specs.Turns.{HasTaken}
+use Rattle.cw_board.proofs.Holding.{aim_now, has_tier_too, holding_over, lay_now, over_lies, over_other, takes_over, tier_lies, tier_now}
+use Rattle.cw_board.proofs.board.Board.borrow_tier.Goals as goal
+
+pub take_tier-requires-clause-held : goal.take_tier-requires-clause-held
+take_tier-requires-clause-held g c =
+    let b = c.args.self.now in
+    let t = c.args.token.now in
+    let u = c.take_turn.new.token in
+    let e = c.take_turn.ensures in
+    let taken : HasTaken b c.args.aim (cells_in b) t u = subst (λ (n : ℕ). HasTaken b c.args.aim n t u) c.cells-place.ensures e.taken in
+    let lies = tier_lies _ _ taken.takes.lay (tier_now b c.args.aim (cells_in b) t u taken refl).whole in
+    (lies.0, subst (Holding u (cells_in b)) lies.1 (holding_over b taken.takes.lay t u (takes_over b c.args.aim t u taken e.table)))
+
+pub returns-clause-held : goal.returns-clause-held
+returns-clause-held g c =
+    let b = c.args.self.now in
+    let t = c.args.token.now in
+    let u = c.take_turn.new.token in
+    let e = c.take_turn.ensures in
+    let o = c.take_tier.ensures in
+    let taken : HasTaken b c.args.aim (cells_in b) t u = subst (λ (n : ℕ). HasTaken b c.args.aim n t u) c.cells-place.ensures e.taken in
+    over_other b taken.takes.lay slot.Empty t u c.take_tier.new.token (takes_over b c.args.aim t u taken e.table) o.table o.view o.slots o.track o.token
+
+pub returns-clause-tier : goal.returns-clause-tier
+returns-clause-tier g c =
+    let b = c.args.self.now in
+    let t = c.args.token.now in
+    let u = c.take_turn.new.token in
+    let e = c.take_turn.ensures in
+    let o = c.take_tier.ensures in
+    let taken : HasTaken b c.args.aim (cells_in b) t u = subst (λ (n : ℕ). HasTaken b c.args.aim n t u) c.cells-place.ensures e.taken in
+    let h = takes_over b c.args.aim t u taken e.table in
+    has_tier_too b taken.takes.lay (slot.Tier c.take_tier.result) u c.take_tier.new.token (over_lies b taken.takes.lay (slot.Tier c.take_tier.result) t u _ h o.out) o.view (tier_now b c.args.aim (cells_in b) t u taken refl)
+
+pub returns-clause-lay : goal.returns-clause-lay
+returns-clause-lay g c =
+    let b = c.args.self.now in
+    let t = c.args.token.now in
+    let u = c.take_turn.new.token in
+    let e = c.take_turn.ensures in
+    let o = c.take_tier.ensures in
+    let taken : HasTaken b c.args.aim (cells_in b) t u = subst (λ (n : ℕ). HasTaken b c.args.aim n t u) c.cells-place.ensures e.taken in
+    let h = takes_over b c.args.aim t u taken e.table in
+    ap (λ (v : View). newest_tier v.turns) o.view ∙ lay_now b c.args.aim (cells_in b) t u taken ∙ ap tier_of (over_lies b taken.takes.lay (slot.Tier c.take_tier.result) t u _ h o.out)
+
+pub returns-clause-aim : goal.returns-clause-aim
+returns-clause-aim g c =
+    let b = c.args.self.now in
+    let t = c.args.token.now in
+    let u = c.take_turn.new.token in
+    let taken : HasTaken b c.args.aim (cells_in b) t u = subst (λ (n : ℕ). HasTaken b c.args.aim n t u) c.cells-place.ensures c.take_turn.ensures.taken in
+    ap (λ (v : View). newest_aim v.turns) c.take_tier.ensures.view ∙ aim_now b c.args.aim (cells_in b) t u taken

@@ -1,5 +1,0 @@
-use Rattle.std.proofs.Common.{◌≡◌, take}
-use Rattle.cw_core.proofs.cores.closing.copies.Given as goal
-
-abbrev pub invariant-loop-conflict : goal.invariant-loop-conflict
-invariant-loop-conflict l = l.copies.items ≡ take l.conflict-index l.conflicts

@@ -1,6 +1,0 @@
-use Rattle.std.proofs.Common.{sym}
-use Rattle.cw_pool.proofs.Tasks.Stopping.{is_faulty}
-use Rattle.cw_pool.proofs.moves.faults.Goals as goal
-
-pub invariant_of-now : goal.invariant_of-now
-invariant_of-now g c = is_faulty _ _ _ _ _ _ _ _ _ c.in-Fault.kind c.in-Goes.is c.now.invariant (sym (c.in-Fault.ensures g.J.Naming-1.job)) c.halt.ensures
