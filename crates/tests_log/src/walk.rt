@@ -369,11 +369,8 @@ fn are_apart(alloc: Global, logs: &Logs) -> Result<bool, OutOfMemory> {
     Ok(columns.windows(2).all(|pair| pair[0] < pair[1]))
 }
 
-<<<<<<< HEAD
-/// Walks from a fresh root for each seed, and counts what was met.
-=======
-/// A walk from a fresh root.
-fn walks_once<R: Threads + Wait + Sync>(
+/// Walks once from a fresh root, and adds what was met to `seen`.
+fn walk_once<R: Threads + Wait + Sync>(
     rt: &R,
     alloc: Global,
     odds: Odds,
@@ -397,8 +394,7 @@ fn walks_once<R: Threads + Wait + Sync>(
     Ok(())
 }
 
-/// Walks, each from a fresh root, and says what was met.
->>>>>>> 1dbe0aeb (tests_log: large values are made last, or dropped by a call before a function is left)
+/// Walks from a fresh root for each seed, and counts what was met.
 pub fn walked<R: Threads + Wait + Sync>(
     rt: &R,
     alloc: Global,
@@ -407,7 +403,7 @@ pub fn walked<R: Threads + Wait + Sync>(
 ) -> Result<Counts, OutOfMemory> {
     let seen = Seen::new();
     for seed in 0..way.walks {
-        match walks_once(rt, alloc, odds, way, seed, &seen) {
+        match walk_once(rt, alloc, odds, way, seed, &seen) {
             Ok(()) => {}
             Err(fault) => {
                 drop(seen);
