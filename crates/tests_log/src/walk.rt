@@ -358,17 +358,6 @@ impl<'a> Walk<'a> {
     }
 }
 
-/// Whether these logs and the root's, which has column 0, have different columns.
-fn are_apart(alloc: Global, logs: &Logs) -> Result<bool, OutOfMemory> {
-    let mut columns = Vec::new(alloc);
-    for log in logs.iter() {
-        columns.push(log.column)?;
-    }
-    columns.push(0)?;
-    columns.sort()?;
-    Ok(columns.windows(2).all(|pair| pair[0] < pair[1]))
-}
-
 /// Walks once from a fresh root, and adds what was met to `seen`.
 fn walk_once<R: Threads + Wait + Sync>(
     rt: &R,
