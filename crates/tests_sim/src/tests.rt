@@ -1,4 +1,4 @@
-ghost use Rattle.std.specs.Prelude.{IfOk};
+ghost use Rattle.std.specs.Prelude.{IfOk, length};
 ghost use Rattle.cw_job.specs.Jobs.{TakesWords};
 ghost use Rattle.cw_strand.specs.Programs.{IsCompiled};
 
@@ -25,44 +25,42 @@ const WIDE: Limits = Limits {
     moves: 1000,
 };
 
-const fn up_to(aborts: u32) -> Limits {
-    Limits { aborts, ..WIDE }
+// Which limit is narrower, and how narrow.
+#[derive(Clone, Copy)]
+enum Bound {
+    Wide,
+    Size(u32),
+    Aborts(u32),
+    Columns(u32),
+    Moves(u64),
 }
 
-const fn columns(strands: u32) -> Limits {
-    Limits { strands, ..WIDE }
-}
-
-const fn for_moves(moves: u64) -> Limits {
-    Limits { moves, ..WIDE }
-}
-
-// What is run, by how many workers, and in which turns.
-#[derive(Clone, Copy, Drop)]
-struct Run<'a> {
-    text: &'a str,
-    workers: u32,
-    list: &'a [u32],
-    limits: Limits,
-}
-
-const fn asked<'a>(text: &'a str, workers: u32, list: &'a [u32], limits: Limits) -> Run<'a> {
-    Run {
-        text,
-        workers,
-        list,
-        limits,
+const fn limits_of(bound: Bound) -> Limits {
+    match bound {
+        Bound::Wide => WIDE,
+        Bound::Size(size) => Limits { size, ..WIDE },
+        Bound::Aborts(aborts) => Limits { aborts, ..WIDE },
+        Bound::Columns(strands) => Limits { strands, ..WIDE },
+        Bound::Moves(moves) => Limits { moves, ..WIDE },
     }
 }
+
+// The text that is run, by how many workers, and in which turns.
+#[derive(Clone, Copy)]
+struct Run<'a>(&'a str, u32, &'a [u32], Bound);
 
 fn program(alloc: Global, text: &str) -> Result<Program, Fail>
     ensures compiled { IfOk result (λ p. IsCompiled p) }
     ensures words { IfOk result (λ p. TakesWords p 0) }
 {
-    let program = compile(alloc, &read_program(alloc, text.as_bytes())?)?;
+    let read = read_program(alloc, text.as_bytes())?;
+    let compiled = compile(alloc, &read);
+    drop(read);
+    let program = compiled?;
     if takes_words(&program, 0) {
         Ok(program)
     } else {
+        drop(program);
         Err("main asks for words".into())
     }
 }
@@ -96,19 +94,45 @@ fn shown(alloc: Global, record: &Record) -> Result<String, Fail> {
     })
 }
 
-// Returns the record of a run, which one memory replays.
-fn record(alloc: Global, run: Run) -> Result<Record, Fail> {
-    if run.workers == 0 || run.limits.strands == 0 || run.list.iter().any(|w| *w >= run.workers) {
-        return Err("no such workers".into());
-    }
-    let schedule = Schedule::List(Seq::from_vec(run.list.to_vec(alloc)?));
-    let program = program(alloc, run.text)?;
-    let words = Seq::new(alloc);
-    let record = simulate(alloc, program, words, run.workers, &schedule, run.limits)?;
-    match check(alloc, &record)? {
-        Checked::Agrees => Ok(record),
+// Fails unless one memory replays the record.
+fn replays(alloc: Global, record: &Record) -> Result<(), Fail>
+    requires { TakesWords record.now.program (length record.now.words) }
+{
+    match check(alloc, record)? {
+        Checked::Agrees => Ok(()),
         _ => Err("does not replay".into()),
     }
+}
+
+// Returns the record of a run, which one memory replays.
+fn record(alloc: Global, run: Run<'_>) -> Result<Record, Fail> {
+    let Run(text, workers, list, bound) = run;
+    let limits = limits_of(bound);
+    if workers == 0 || limits.strands == 0 || list.iter().any(|w| *w >= workers) {
+        return Err("no such workers".into());
+    }
+    let list = Seq::from_vec(list.to_vec(alloc)?);
+    let program = program(alloc, text)?;
+    let words = Seq::new(alloc);
+    let schedule = Schedule::List(list);
+    let simulated = simulate(alloc, program, words, workers, &schedule, limits);
+    drop(schedule);
+    let record = simulated?;
+    match replays(alloc, &record) {
+        Ok(_) => Ok(record),
+        Err(fault) => {
+            drop(record);
+            Err(fault)
+        }
+    }
+}
+
+// How the run ends.
+fn ended(alloc: Global, run: Run<'_>) -> Result<String, Fail> {
+    let record = record(alloc, run)?;
+    let said = shown(alloc, &record);
+    drop(record);
+    said
 }
 
 const SUMS: &str = "cell c; fn main() { atomic { spawn { c = c + 1; } c = c + 1; } }";
@@ -126,41 +150,43 @@ const NESTED: &str = "fn main() { spawn { spawn { out 1; } out 2; } out 3; }";
 
 #[test]
 fn moves_come_to_their_ends(rt: HostRuntime) -> Result<(), Fail> {
-    let alloc = rt.alloc();
-    let table = [
+    let table: &[(Run<'_>, &str)] = &[
         (
-            asked(SUMS, 2, &[0, 0, 1, 0, 1, 0, 1], WIDE),
+            Run(SUMS, 2, &[0, 0, 1, 0, 1, 0, 1], Bound::Wide),
             "finished [1] [] 0",
         ),
         (
-            asked(BLOCKS, 2, &[0, 1, 0, 0, 1, 1, 1], WIDE),
+            Run(BLOCKS, 2, &[0, 1, 0, 0, 1, 1, 1], Bound::Wide),
             "finished [2] [] 1",
         ),
         (
-            asked(BLOCKS, 2, &[0, 1, 0, 0, 1, 1, 1], up_to(1)),
+            Run(BLOCKS, 2, &[0, 1, 0, 0, 1, 1, 1], Bound::Aborts(1)),
             "budget in 0.1r 1",
         ),
         (
-            asked(WITHIN, 3, &[0, 1, 0, 0, 2, 2, 0, 2, 0, 1], WIDE),
+            Run(WITHIN, 3, &[0, 1, 0, 0, 2, 2, 0, 2, 0, 1], Bound::Wide),
             "finished [2, 1] [] 2",
         ),
         (
-            asked(FAULTY, 3, &[0, 1, 0, 0, 1, 1, 2, 1, 2, 2], WIDE),
+            Run(FAULTY, 3, &[0, 1, 0, 0, 1, 1, 2, 1, 2, 2], Bound::Wide),
             "fault Zero in 0.1r.1r 1",
         ),
         (
-            asked(NESTED, 2, &[0, 0, 1, 1], WIDE),
+            Run(NESTED, 2, &[0, 0, 1, 1], Bound::Wide),
             "finished [] [3, 1, 2] 0",
         ),
-        (asked(NESTED, 2, &[], columns(1)), "finished [] [1, 2, 3] 0"),
         (
-            asked(BLOCKS, 2, &[0, 1, 0, 0, 1, 1, 1], for_moves(24)),
+            Run(NESTED, 2, &[], Bound::Columns(1)),
+            "finished [] [1, 2, 3] 0",
+        ),
+        (
+            Run(BLOCKS, 2, &[0, 1, 0, 0, 1, 1, 1], Bound::Moves(24)),
             "moves 1",
         ),
     ];
-    for (run, wanted) in table {
-        let said = shown(alloc, &record(alloc, run)?)?;
-        assert_eq!(rt; said.as_str(), wanted);
+    for &(run, wanted) in table {
+        let said = ended(rt.alloc(), run)?;
+        assert!(rt; said.as_str() == wanted);
     }
     Ok(())
 }
