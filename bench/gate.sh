@@ -5,8 +5,8 @@
 #   seed   the proof that its must-fail edits start from, and the one that looks at it again at the end
 #   edits  the must-fail edits
 # Then come the sums, what else the run took (compilers, the runs of tests and programs, rt itself) and the whole, with the wall time.
-# It looks at the processes of the run twice a second, so a process that lives for less than half a second counts as "else". What the
-# machine keeps from earlier runs is not proved again: give --anew for the cost from nothing. Other work makes each second dearer.
+# It looks at the processes of the run once a second, so a process that lives for less than a second counts as "else". What the machine
+# keeps from earlier runs is not proved again: give --anew for the cost from nothing. Other work makes each second dearer.
 # Usage: bench/gate.sh [--anew] [CRATE..]; what rt says goes to standard error, and its status is that of the script.
 set -uo pipefail
 
@@ -31,33 +31,36 @@ name_of() {
   [ -n "${crate:-}" ] && name="$crate $kind"
 }
 
-# sample RT: adds up what the rattle processes below the process RT have taken until now
+# fields_of PID: the fields of /proc/PID/stat behind the name of the program, or an error if the process has gone
+fields_of() {
+  local line
+  { read -r line < "/proc/$1/stat"; } 2> /dev/null || return 1
+  read -r -a fields <<< "${line##*) }"
+}
+
+# sample RT: adds up what the rattle processes below the process RT have taken until now, each with the kernels that it starts
 sample() {
-  local file line pid top name fields
-  declare -A parent taken is_rattle now
-  for file in /proc/[0-9]*/stat; do
-    { read -r line < "$file"; } 2> /dev/null || continue
-    pid=${line%% *}
-    read -r -a fields <<< "${line##*) }"
+  local pid top above name fields key
+  declare -A parent taken start now
+  for pid in $(pgrep -x 'rattle|antt-kernel'); do
+    fields_of "$pid" || continue
     parent[$pid]=${fields[1]}
     taken[$pid]=$((fields[11] + fields[12] + fields[13] + fields[14]))
-    case $line in *'(rattle)'*) is_rattle[$pid]=${fields[19]} ;; esac
+    start[$pid]=${fields[19]}
   done
-  for pid in "${!is_rattle[@]}"; do
+  for pid in "${!taken[@]}"; do
     top=$pid
-    while [ -n "${is_rattle[${parent[$top]:-0}]:-}" ]; do top=${parent[$top]}; done
-    line=$top
-    while [ "$line" != "$1" ] && [ "${line:-0}" -gt 1 ]; do line=${parent[$line]:-0}; done
-    if [ "$line" != "$1" ]; then continue; fi
-    name=$top.${is_rattle[$top]}
-    now[$name]=$((${now[$name]:-0} + taken[$pid]))
-    if [ -z "${label[$name]:-}" ]; then
-      local key=$name
-      if name_of "$top"; then label[$key]=$name; fi
+    while [ -n "${start[${parent[$top]}]:-}" ]; do top=${parent[$top]}; done
+    key=$top.${start[$top]}
+    now[$key]=$((${now[$key]:-0} + taken[$pid]))
+    if [ -z "${label[$key]:-}" ]; then
+      above=${parent[$top]}
+      while [ "$above" != "$1" ] && [ "$above" -gt 1 ] && fields_of "$above"; do above=${fields[1]}; done
+      if [ "$above" = "$1" ] && name_of "$top"; then label[$key]=$name; fi
     fi
   done
-  for name in "${!now[@]}"; do
-    if [ "${now[$name]}" -gt "${spent[$name]:-0}" ]; then spent[$name]=${now[$name]}; fi
+  for key in "${!now[@]}"; do
+    if [ "${now[$key]}" -gt "${spent[$key]:-0}" ]; then spent[$key]=${now[$key]}; fi
   done
 }
 
@@ -68,7 +71,7 @@ TIMEFORMAT='%R %U %S'
 runner=$!
 while kill -0 "$runner" 2> /dev/null; do
   sample "$runner"
-  sleep 0.5
+  sleep 1
 done
 wait "$runner"
 status=$?
