@@ -67,7 +67,8 @@ sample() {
 times=$(mktemp)
 trap 'rm -f "$times"' EXIT
 TIMEFORMAT='%R %U %S'
-{ time rt ci "$@" >&2 2> /dev/stderr; } 2> "$times" &
+exec 3>&2
+{ time rt ci "$@" >&3 2>&3; } 2> "$times" &
 runner=$!
 while kill -0 "$runner" 2> /dev/null; do
   sample "$runner"
