@@ -1,4 +1,3 @@
-mod buds;
 mod builds;
 mod cancels;
 mod checks;

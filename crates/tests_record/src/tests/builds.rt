@@ -1,9 +1,9 @@
-use super::grown::grown;
+use super::grown::{Bud, grown};
 use super::machines::program;
 use cw_base::Seq;
 use cw_code::Limits;
 use cw_record::{Record, RecordEnd, build};
-use cw_tree::{Closed, Entry, Kind, Mark, Tree};
+use cw_tree::{Closed, Entry, Mark, Tree};
 use std::alloc::Global;
 use std::test::Fail;
 
@@ -11,14 +11,14 @@ const SHOWS: &str = "cell c; fn main() { spawn { out 1; } out 2; c = 5; }";
 
 // The right strand output 2 before the left one output 1.
 fn shown(alloc: Global) -> Result<Tree, Fail> {
-    let nodes = vec![in alloc;
-        (0, Kind::Fork, 1),
-        (1, Kind::Strand, 0),
-        (2, Kind::Out { value: 1 }, 3),
-        (1, Kind::Strand, 0),
-        (4, Kind::Out { value: 2 }, 2),
-        (4, Kind::Write { cell: 0, value: 5 }, 4),
-    ]?;
+    let nodes: &[(u32, Bud<'_>, u64)] = &[
+        (0, Bud::Fork, 1),
+        (1, Bud::Strand, 0),
+        (2, Bud::Out { value: 1 }, 3),
+        (1, Bud::Strand, 0),
+        (4, Bud::Out { value: 2 }, 2),
+        (4, Bud::Write { cell: 0, value: 5 }, 4),
+    ];
     grown(alloc, nodes, &[])
 }
 
@@ -46,14 +46,16 @@ fn built(alloc: Global, spent: bool) -> Result<Record, Fail> {
         strands: 2,
         moves: 9,
     };
+    let tree = shown(alloc)?;
+    let journals = journals(alloc)?;
+    let program = program(alloc, SHOWS)?;
     let closed = Closed {
-        tree: shown(alloc)?,
-        journals: journals(alloc)?,
+        tree,
+        journals,
         conflicts: Seq::new(alloc),
         halt: None,
     };
-    let words = Seq::new(alloc);
-    Ok(build(alloc, program(alloc, SHOWS)?, words, limits, closed, spent)?)
+    Ok(build(alloc, program, Seq::new(alloc), limits, closed, spent)?)
 }
 
 // Returns the memory and the outputs of a run that finished.
@@ -77,13 +79,15 @@ fn left_at(end: &RecordEnd) -> Result<(i64, i64, i64), Fail> {
 
 fn has_spent_moves(alloc: Global) -> Result<bool, Fail> {
     let record = built(alloc, true)?;
-    Ok(matches!(&record.end, RecordEnd::Moves))
+    let spent = matches!(&record.end, RecordEnd::Moves);
+    drop(record);
+    Ok(spent)
 }
 
 #[test]
 fn a_closed_run_has_its_record(rt: HostRuntime) -> Result<(), Fail> {
     let alloc = rt.alloc();
-    assert_eq!(rt; left(alloc)?, (5, 2, 1));
+    assert!(rt; left(alloc)? == (5, 2, 1));
     assert!(rt; has_spent_moves(alloc)?);
     Ok(())
 }

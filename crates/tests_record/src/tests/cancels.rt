@@ -1,8 +1,11 @@
+ghost use Rattle.cw_job.specs.Jobs.{TakesWords};
+ghost use Rattle.cw_strand.specs.Programs.{IsCompiled};
+
 use super::checks::said;
-use super::grown::grown;
+use super::grown::{Bud, grown};
 use super::machines::program;
 use cw_base::Seq;
-use cw_code::{Back, Limits};
+use cw_code::{Back, Limits, Program};
 use cw_record::{Checked, RecordEnd, depth_first};
 use cw_tree::{BlockState, Kind, Tree};
 use std::alloc::Global;
@@ -25,38 +28,56 @@ fn finished(alloc: Global, memory: &[i64], outputs: &[i64]) -> Result<RecordEnd,
     })
 }
 
-fn leaf(alloc: Global, list: &[Back]) -> Result<Kind, Fail> {
-    Ok(Kind::Cancel {
-        back: Seq::from_vec(list.to_vec(alloc)?),
-    })
-}
-
 // A block that writes c, outputs it, and cancels itself with this list.
 fn shown(alloc: Global, list: &[Back]) -> Result<Tree, Fail> {
-    let nodes = vec![in alloc;
-        (0, Kind::Block, 1),
-        (1, Kind::Write { cell: 0, value: 9 }, 2),
-        (1, Kind::Read { cell: 0, value: 9 }, 3),
-        (1, Kind::Out { value: 9 }, 4),
-        (1, leaf(alloc, list)?, 5),
-        (1, Kind::Write { cell: 0, value: 5 }, 6),
-        (0, Kind::Read { cell: 0, value: 5 }, 8),
-        (0, Kind::Out { value: 5 }, 9),
-    ]?;
-    grown(alloc, nodes, &[(1, BlockState::Committed, 7)])
+    let nodes = [
+        (0, Bud::Block, 1),
+        (1, Bud::Write { cell: 0, value: 9 }, 2),
+        (1, Bud::Read { cell: 0, value: 9 }, 3),
+        (1, Bud::Out { value: 9 }, 4),
+        (1, Bud::Cancel { back: list }, 5),
+        (1, Bud::Write { cell: 0, value: 5 }, 6),
+        (0, Bud::Read { cell: 0, value: 5 }, 8),
+        (0, Bud::Out { value: 5 }, 9),
+    ];
+    grown(alloc, &nodes, &[(1, BlockState::Committed, 7)])
 }
 
 // A block that writes a and b, and cancels itself with this list.
 fn twice(alloc: Global, list: &[Back]) -> Result<Tree, Fail> {
-    let nodes = vec![in alloc;
-        (0, Kind::Block, 1),
-        (1, Kind::Write { cell: 0, value: 7 }, 2),
-        (1, Kind::Write { cell: 1, value: 8 }, 3),
-        (1, leaf(alloc, list)?, 4),
-        (1, Kind::Write { cell: 0, value: 1 }, 5),
-        (1, Kind::Write { cell: 1, value: 2 }, 6),
-    ]?;
-    grown(alloc, nodes, &[(1, BlockState::Committed, 7)])
+    let nodes = [
+        (0, Bud::Block, 1),
+        (1, Bud::Write { cell: 0, value: 7 }, 2),
+        (1, Bud::Write { cell: 1, value: 8 }, 3),
+        (1, Bud::Cancel { back: list }, 4),
+        (1, Bud::Write { cell: 0, value: 1 }, 5),
+        (1, Bud::Write { cell: 1, value: 2 }, 6),
+    ];
+    grown(alloc, &nodes, &[(1, BlockState::Committed, 7)])
+}
+
+// What a check says of the first of these blocks with the list of this value.
+fn said_of_shown(alloc: Global, value: i64) -> Result<Checked, Fail> {
+    let tree = shown(alloc, &[back(0, value)])?;
+    match finished(alloc, &[5], &[9, 5]) {
+        Ok(end) => said(alloc, SHOWN, 1, tree, Seq::new(alloc), end),
+        Err(fault) => {
+            drop(tree);
+            Err(fault)
+        }
+    }
+}
+
+// What a check says of the second with this list.
+fn said_of_twice(alloc: Global, list: &[Back]) -> Result<Checked, Fail> {
+    let tree = twice(alloc, list)?;
+    match finished(alloc, &[1, 2, 0], &[]) {
+        Ok(end) => said(alloc, TWICE, 1, tree, Seq::new(alloc), end),
+        Err(fault) => {
+            drop(tree);
+            Err(fault)
+        }
+    }
 }
 
 #[test]
@@ -68,10 +89,8 @@ fn a_list_is_looked_at(rt: HostRuntime) -> Result<(), Fail> {
         replayed: 4,
     };
     for (value, wanted) in [(5, Checked::Agrees), (6, differs(1))] {
-        let end = finished(alloc, &[5], &[9, 5])?;
-        let tree = shown(alloc, &[back(0, value)])?;
-        let answer = said(alloc, SHOWN, 1, tree, Seq::new(alloc), end)?;
-        assert_eq!(rt; answer, wanted);
+        let answer = said_of_shown(alloc, value)?;
+        assert!(rt; answer == wanted);
     }
     let lists: [(&[Back], Checked); 5] = [
         (&[back(0, 1), back(1, 2)], Checked::Agrees),
@@ -81,9 +100,8 @@ fn a_list_is_looked_at(rt: HostRuntime) -> Result<(), Fail> {
         (&[back(1, 2), back(0, 1)], differs(3)),
     ];
     for (list, wanted) in lists {
-        let end = finished(alloc, &[1, 2, 0], &[])?;
-        let answer = said(alloc, TWICE, 1, twice(alloc, list)?, Seq::new(alloc), end)?;
-        assert_eq!(rt; answer, wanted);
+        let answer = said_of_twice(alloc, list)?;
+        assert!(rt; answer == wanted);
     }
     Ok(())
 }
@@ -98,6 +116,24 @@ fn first_cancel(alloc: Global, tree: &Tree) -> Result<String, Fail> {
         }
     }
     Err("no cancel".into())
+}
+
+// The same for the run of one worker.
+fn first_listed(alloc: Global, program: Program) -> Result<String, Fail>
+    requires compiled { IsCompiled program }
+    requires words { TakesWords program 0 }
+{
+    let limits = Limits {
+        fuel: 99,
+        size: 99,
+        aborts: 1,
+        strands: 9,
+        moves: 99,
+    };
+    let run = depth_first(alloc, program, Seq::new(alloc), limits)?;
+    let listed = first_cancel(alloc, &run.tree);
+    drop(run);
+    listed
 }
 
 #[test]
@@ -115,15 +151,9 @@ fn one_worker_lists_what_is_put_back(rt: HostRuntime) -> Result<(), Fail> {
         ),
     ];
     for (text, wanted) in table {
-        let limits = Limits {
-            fuel: 99,
-            size: 99,
-            aborts: 1,
-            strands: 9,
-            moves: 99,
-        };
-        let run = depth_first(alloc, program(alloc, text)?, Seq::new(alloc), limits)?;
-        assert_eq!(rt; first_cancel(alloc, &run.tree)?.as_str(), wanted);
+        let program = program(alloc, text)?;
+        let listed = first_listed(alloc, program)?;
+        assert!(rt; listed.as_str() == wanted);
     }
     Ok(())
 }

@@ -1,12 +1,13 @@
 ghost use Rattle.std.specs.Prelude.{◌≡◌, [], IfOk};
+ghost use Rattle.cw_job.specs.Jobs.{TakesWords};
 
-use super::grown::grown;
+use super::grown::{Bud, grown};
 use super::machines::program;
 use super::orders::ordered;
 use cw_base::Seq;
 use cw_code::{FaultKind, Limits, Program};
 use cw_record::{Checked, Record, RecordEnd, check};
-use cw_tree::{Conflict, Kind, Tree};
+use cw_tree::{Conflict, Picks, Tree};
 use std::alloc::Global;
 use std::test::Fail;
 
@@ -19,19 +20,19 @@ const ALONE: &str = "cell c; fn main() { atomic { spawn { atomic { c = 1; } } c 
 
 const COUNTS: &str = "cell c; fn main() { c = c + 1; out c; }";
 
-// Makes a run of this program with this budget, tree, conflicts and end, in the order of that tree.
+// Makes a run of this program with this budget, tree, conflicts, end and order.
 fn run(
     alloc: Global,
     program: Program,
     aborts: u32,
     tree: Tree,
     conflicts: Seq<Conflict>,
+    order: Picks,
     end: RecordEnd,
-) -> Result<Record, Fail>
-    ensures { IfOk result (λ r. (r.program ≡ program) × (r.words ≡ [])) }
+) -> Record
+    ensures { (result.program ≡ program) × (result.words ≡ []) }
 {
-    let order = ordered(alloc, &tree, conflicts.as_slice(), aborts, &end)?;
-    Ok(Record {
+    Record {
         program,
         words: Seq::new(alloc),
         limits: Limits {
@@ -46,10 +47,26 @@ fn run(
         conflicts,
         order,
         end,
-    })
+    }
 }
 
-// Returns what a check says of such a run.
+// Returns the program of a text, and the order of a run.
+fn prepared(
+    alloc: Global,
+    text: &str,
+    aborts: u32,
+    tree: &Tree,
+    conflicts: &[Conflict],
+    end: &RecordEnd,
+) -> Result<(Program, Picks), Fail>
+    ensures { IfOk result (λ r. TakesWords r.0 0) }
+{
+    let order = ordered(alloc, tree, conflicts, aborts, end)?;
+    let program = program(alloc, text)?;
+    Ok((program, order))
+}
+
+// Returns what a check says of a run in its own order.
 pub fn said(
     alloc: Global,
     text: &str,
@@ -58,8 +75,21 @@ pub fn said(
     conflicts: Seq<Conflict>,
     end: RecordEnd,
 ) -> Result<Checked, Fail> {
-    let run = run(alloc, program(alloc, text)?, aborts, tree, conflicts, end)?;
-    Ok(check(alloc, &run)?)
+    match prepared(alloc, text, aborts, &tree, conflicts.as_slice(), &end) {
+        Ok(both) => {
+            let (program, order) = both;
+            let run = run(alloc, program, aborts, tree, conflicts, order, end);
+            let said = check(alloc, &run);
+            drop(run);
+            Ok(said?)
+        }
+        Err(fault) => {
+            drop(tree);
+            drop(conflicts);
+            drop(end);
+            Err(fault)
+        }
+    }
 }
 
 fn one(alloc: Global, conflict: Conflict) -> Result<Seq<Conflict>, Fail> {
@@ -90,77 +120,103 @@ const fn differs(cell: u32, kept: i64) -> Checked {
 
 // The left strand has written c once. The strand that the right one spawned was refused at c, and the right one has read d.
 fn refused(alloc: Global) -> Result<Tree, Fail> {
-    let nodes = vec![in alloc;
-        (0, Kind::Fork, 1),
-        (1, Kind::Strand, 0),
-        (2, Kind::Block, 2),
-        (3, Kind::Write { cell: 0, value: 1 }, 3),
-        (1, Kind::Strand, 0),
-        (5, Kind::Block, 4),
-        (6, Kind::Fork, 5),
-        (7, Kind::Strand, 0),
-        (8, Kind::Tried { cell: 0 }, 0),
-        (7, Kind::Strand, 0),
-        (10, Kind::Read { cell: 1, value: 0 }, 6),
-    ]?;
+    let nodes: &[(u32, Bud<'_>, u64)] = &[
+        (0, Bud::Fork, 1),
+        (1, Bud::Strand, 0),
+        (2, Bud::Block, 2),
+        (3, Bud::Write { cell: 0, value: 1 }, 3),
+        (1, Bud::Strand, 0),
+        (5, Bud::Block, 4),
+        (6, Bud::Fork, 5),
+        (7, Bud::Strand, 0),
+        (8, Bud::Tried { cell: 0 }, 0),
+        (7, Bud::Strand, 0),
+        (10, Bud::Read { cell: 1, value: 0 }, 6),
+    ];
     grown(alloc, nodes, &[])
+}
+
+// How such a run ends: at a fault of the strand that began a block, or with a budget that a strand spent.
+#[derive(Clone, Copy)]
+enum Stop {
+    Fault(FaultKind),
+    Budget(u32),
+}
+
+const fn end_of(stop: Stop) -> RecordEnd {
+    match stop {
+        Stop::Fault(kind) => RecordEnd::Fault { strand: 10, kind },
+        Stop::Budget(strand) => RecordEnd::Budget { strand },
+    }
+}
+
+fn said_of_refused(alloc: Global, aborts: u32, stop: Stop) -> Result<Checked, Fail> {
+    let tree = refused(alloc)?;
+    let conflicts = one(alloc, conflict(alloc, 3, 9, 2, 4))?;
+    said(alloc, REFUSED, aborts, tree, conflicts, end_of(stop))
 }
 
 // A fault before the refused block is rolled back replays; so does the budget that the refusal spent, told for the victim's strand.
 #[test]
 fn a_fault_and_a_spent_budget_replay(rt: HostRuntime) -> Result<(), Fail> {
-    let alloc = rt.alloc();
-    let fault = |kind| RecordEnd::Fault { strand: 10, kind };
-    let spent = |strand| RecordEnd::Budget { strand };
     let table = [
-        (2, fault(FaultKind::Overflow), Checked::Agrees),
-        (2, fault(FaultKind::Zero), differs(2, 1)),
-        (1, spent(5), Checked::Agrees),
-        (1, spent(8), differs(2, 2)),
-        (2, spent(5), differs(2, 2)),
+        (2, Stop::Fault(FaultKind::Overflow), Checked::Agrees),
+        (2, Stop::Fault(FaultKind::Zero), differs(2, 1)),
+        (1, Stop::Budget(5), Checked::Agrees),
+        (1, Stop::Budget(8), differs(2, 2)),
+        (2, Stop::Budget(5), differs(2, 2)),
     ];
-    for (aborts, end, wanted) in table {
-        let conflicts = one(alloc, conflict(alloc, 3, 9, 2, 4))?;
-        let answer = said(alloc, REFUSED, aborts, refused(alloc)?, conflicts, end)?;
-        assert_eq!(rt; answer, wanted);
+    for (aborts, stop, wanted) in table {
+        let answer = said_of_refused(rt.alloc(), aborts, stop)?;
+        assert!(rt; answer == wanted);
     }
     Ok(())
 }
 
 // The strand of main is refused without a victim, inside the block that it began.
 fn alone(alloc: Global) -> Result<Tree, Fail> {
-    let nodes = vec![in alloc;
-        (0, Kind::Block, 1),
-        (1, Kind::Fork, 2),
-        (2, Kind::Strand, 0),
-        (3, Kind::Block, 3),
-        (4, Kind::Write { cell: 0, value: 1 }, 4),
-        (2, Kind::Strand, 0),
-        (6, Kind::Tried { cell: 0 }, 0),
-    ]?;
+    let nodes: &[(u32, Bud<'_>, u64)] = &[
+        (0, Bud::Block, 1),
+        (1, Bud::Fork, 2),
+        (2, Bud::Strand, 0),
+        (3, Bud::Block, 3),
+        (4, Bud::Write { cell: 0, value: 1 }, 4),
+        (2, Bud::Strand, 0),
+        (6, Bud::Tried { cell: 0 }, 0),
+    ];
     grown(alloc, nodes, &[])
+}
+
+fn said_of_alone(alloc: Global, strand: u32) -> Result<Checked, Fail> {
+    let tree = alone(alloc)?;
+    let conflicts = one(alloc, conflict(alloc, 4, 7, 3, 0))?;
+    said(
+        alloc,
+        ALONE,
+        1,
+        tree,
+        conflicts,
+        RecordEnd::Budget { strand },
+    )
 }
 
 #[test]
 fn an_access_that_spent_the_budget_replays(rt: HostRuntime) -> Result<(), Fail> {
-    let alloc = rt.alloc();
     for (strand, wanted) in [(6, Checked::Agrees), (3, differs(1, 2))] {
-        let conflicts = one(alloc, conflict(alloc, 4, 7, 3, 0))?;
-        let end = RecordEnd::Budget { strand };
-        let answer = said(alloc, ALONE, 1, alone(alloc)?, conflicts, end)?;
-        assert_eq!(rt; answer, wanted);
+        let answer = said_of_alone(rt.alloc(), strand)?;
+        assert!(rt; answer == wanted);
     }
     Ok(())
 }
 
 // The four things that main does, if its second read found `value`.
 fn counted(alloc: Global, value: i64) -> Result<Tree, Fail> {
-    let nodes = vec![in alloc;
-        (0, Kind::Read { cell: 0, value: 0 }, 1),
-        (0, Kind::Write { cell: 0, value: 1 }, 2),
-        (0, Kind::Read { cell: 0, value }, 3),
-        (0, Kind::Out { value: 1 }, 4),
-    ]?;
+    let nodes: &[(u32, Bud<'_>, u64)] = &[
+        (0, Bud::Read { cell: 0, value: 0 }, 1),
+        (0, Bud::Write { cell: 0, value: 1 }, 2),
+        (0, Bud::Read { cell: 0, value }, 3),
+        (0, Bud::Out { value: 1 }, 4),
+    ];
     grown(alloc, nodes, &[])
 }
 
@@ -168,16 +224,9 @@ fn counted(alloc: Global, value: i64) -> Result<Tree, Fail> {
 fn moves_that_were_used_up_replay(rt: HostRuntime) -> Result<(), Fail> {
     let alloc = rt.alloc();
     for (value, wanted) in [(1, Checked::Agrees), (0, differs(1, 3))] {
-        let none = Seq::new(alloc);
-        let answer = said(
-            alloc,
-            COUNTS,
-            1,
-            counted(alloc, value)?,
-            none,
-            RecordEnd::Moves,
-        )?;
-        assert_eq!(rt; answer, wanted);
+        let tree = counted(alloc, value)?;
+        let answer = said(alloc, COUNTS, 1, tree, Seq::new(alloc), RecordEnd::Moves)?;
+        assert!(rt; answer == wanted);
     }
     Ok(())
 }

@@ -8,6 +8,7 @@ use cw_compile::compile;
 use cw_serial::{Limits, Machine, Name, Picks, Program, SerialEnd, serial, takes_words};
 use cw_text::read_program;
 use std::alloc::Global;
+use std::process::Abort;
 use std::test::Fail;
 
 const LIMITS: Limits = Limits {
@@ -33,10 +34,14 @@ pub fn program(alloc: Global, text: &str) -> Result<Program, Fail>
     ensures words { IfOk result (λ p. TakesWords p 0) }
     ensures compiled { IfOk result (λ p. IsCompiled p) }
 {
-    let program = compile(alloc, &read_program(alloc, text.as_bytes())?)?;
+    let read = read_program(alloc, text.as_bytes())?;
+    let compiled = compile(alloc, &read);
+    drop(read);
+    let program = compiled?;
     if takes_words(&program, 0) {
         Ok(program)
     } else {
+        drop(program);
         Err("main asks for words".into())
     }
 }
@@ -64,18 +69,37 @@ fn shown(alloc: Global, end: &SerialEnd) -> Result<String, Fail> {
     })
 }
 
+// Returns the end that these picks of a program lead to.
+fn led_to(alloc: Global, program: &Program, limits: Limits, list: &[u32]) -> Result<String, Fail>
+    requires { TakesWords program.now 0 }
+{
+    let picks = picks_of(alloc, list)?;
+    let end = serial(alloc, program, &[], limits, &picks);
+    drop(picks);
+    let end = end?;
+    let said = shown(alloc, &end);
+    drop(end);
+    said
+}
+
+// The same for the text of a program.
+fn ended(alloc: Global, text: &str, limits: Limits, list: &[u32]) -> Result<String, Fail> {
+    let program = program(alloc, text)?;
+    let said = led_to(alloc, &program, limits, list);
+    drop(program);
+    said
+}
+
 #[test]
 fn picks_lead_to_ends(rt: HostRuntime) -> Result<(), Fail> {
-    let alloc = rt.alloc();
-    let program = program(alloc, BOTH)?;
     let table: [(&[u32], &str); 3] = [
         (&[0, 1, 2, 1, 2, 0], "Finished [1] []"),
         (&[0, 1, 1, 2, 2, 0], "Finished [2] []"),
         (&[0, 1, 0], "Stuck 2"),
     ];
     for (list, wanted) in table {
-        let end = serial(alloc, &program, &[], LIMITS, &picks_of(alloc, list)?)?;
-        assert_eq!(rt; shown(alloc, &end)?.as_str(), wanted);
+        let end = ended(rt.alloc(), BOTH, LIMITS, list)?;
+        assert!(rt; end.as_str() == wanted);
     }
     Ok(())
 }
@@ -133,16 +157,14 @@ const CANCELS: [(&str, u32, &[u32], &str); 9] = [
 
 #[test]
 fn blocks_are_given_up(rt: HostRuntime) -> Result<(), Fail> {
-    let alloc = rt.alloc();
     for (source, size, list, wanted) in CANCELS {
-        let program = program(alloc, source)?;
         let limits = Limits {
             fuel: 99,
             size,
             ..LIMITS
         };
-        let end = serial(alloc, &program, &[], limits, &picks_of(alloc, list)?)?;
-        assert_eq!(rt; shown(alloc, &end)?.as_str(), wanted);
+        let end = ended(rt.alloc(), source, limits, list)?;
+        assert!(rt; end.as_str() == wanted);
     }
     Ok(())
 }
@@ -170,13 +192,17 @@ fn picked(
     }
 }
 
-#[test]
-fn an_update_is_lost_step_by_step(rt: HostRuntime) -> Result<(), Fail> {
-    let alloc = rt.alloc();
-    let program = program(alloc, BOTH)?;
-    let mut machine = Machine::new(alloc, &program, &[], LIMITS)?;
+// Asserts that an update of that program is lost on this machine.
+fn loses_an_update(
+    rt: &impl Abort,
+    alloc: Global,
+    program: &Program,
+    machine: &mut Machine,
+) -> Result<(), Fail>
+    requires { Runs program.now machine.old }
+{
     let names = [name(0, 0, false), name(0, 1, false), name(0, 1, true)];
-    assert_eq!(rt; machine.names(), &names[..1]);
+    assert!(rt; machine.names() == &names[..1]);
     let table: [(u32, &str); 6] = [
         (0, "[None, Some(Load(0)), Some(Load(0))]"),
         (1, "[None, Some(Store(0, 1)), Some(Load(0))]"),
@@ -186,10 +212,28 @@ fn an_update_is_lost_step_by_step(rt: HostRuntime) -> Result<(), Fail> {
         (0, "[None, None, None]"),
     ];
     for (strand, wanted) in table {
-        let wants = picked(alloc, &program, &mut machine, strand)?;
-        assert_eq!(rt; wants.as_str(), wanted);
+        let wants = picked(alloc, program, machine, strand)?;
+        assert!(rt; wants.as_str() == wanted);
     }
-    assert_eq!(rt; machine.names(), names.as_slice());
-    assert_eq!(rt; machine.memory(), [1].as_slice());
+    assert!(rt; machine.names() == names.as_slice());
+    assert!(rt; machine.memory() == [1].as_slice());
     Ok(())
+}
+
+// The same on a machine of its own.
+fn update_is_lost(rt: &impl Abort, alloc: Global, program: &Program) -> Result<(), Fail>
+    requires { TakesWords program.now 0 }
+{
+    let mut machine = Machine::new(alloc, program, &[], LIMITS)?;
+    let lost = loses_an_update(rt, alloc, program, &mut machine);
+    drop(machine);
+    lost
+}
+
+#[test]
+fn an_update_is_lost_step_by_step(rt: HostRuntime) -> Result<(), Fail> {
+    let program = program(rt.alloc(), BOTH)?;
+    let lost = update_is_lost(&rt, rt.alloc(), &program);
+    drop(program);
+    lost
 }

@@ -8,9 +8,9 @@ use std::alloc::Global;
 use std::process::Abort;
 use std::test::Fail;
 
-// Functions, each with its parameters, its locals, its start and its end; and instructions, each with its operands. The one array
-// has 4 elements.
-#[derive(Drop)]
+// Functions, each with its parameters, its locals, its start and its end, and instructions, each with its operands. The one array has 4
+// elements.
+#[derive(Clone, Copy)]
 struct Listing {
     funcs: &'static [(u32, u32, u32, u32)],
     instrs: &'static [(u8, i64, u32)],
@@ -137,13 +137,14 @@ fn code(alloc: Global, listing: &Listing) -> Result<Code, Fail> {
 }
 
 fn program(alloc: Global, listing: &Listing) -> Result<Program, Fail> {
+    let name = Text::from_ascii(alloc, b"a")?;
     let code = verify(alloc, code(alloc, listing)?)?;
     if code.code().funcs.len() == 0 || code.code().cells != 4 {
         return Err("no main, or other cells".into());
     }
     let mut cells = Seq::new(alloc);
     cells.push(CellInfo {
-        name: Text::from_ascii(alloc, b"a")?,
+        name,
         len: 4,
         base: 0,
         init: 0,
@@ -180,7 +181,39 @@ fn strand_of(alloc: Global, program: &Program, limits: Limits) -> Result<Strand,
     Ok(Strand::main(alloc, program, &[], limits)?)
 }
 
-// Asserts that the strand of main has these wants, if an array answers them.
+// Asserts that a strand has these wants, if an array answers them.
+fn wants_of_strand_are(
+    rt: &impl Abort,
+    program: &Program,
+    strand: &mut Strand,
+    wants: &[Want],
+) -> Result<(), Fail>
+    requires { StandsIn program.now.code strand.old }
+{
+    let mut elements = [0; 4];
+    let mut given = Given::Nothing;
+    for want in wants {
+        let found = strand.next(program, given)?;
+        assert!(rt; found == *want);
+        given = answered(found, &mut elements);
+    }
+    Ok(())
+}
+
+// Asserts that the strand of a program's main has these wants.
+fn wants_of_program_are(
+    rt: &impl Abort,
+    alloc: Global,
+    program: &Program,
+    limits: Limits,
+    wants: &[Want],
+) -> Result<(), Fail> {
+    let mut strand = strand_of(alloc, program, limits)?;
+    let asked = wants_of_strand_are(rt, program, &mut strand, wants);
+    drop(strand);
+    asked
+}
+
 fn wants_are(
     rt: &impl Abort,
     alloc: Global,
@@ -189,20 +222,13 @@ fn wants_are(
     wants: &[Want],
 ) -> Result<(), Fail> {
     let program = program(alloc, listing)?;
-    let mut strand = strand_of(alloc, &program, limits)?;
-    let mut elements = [0; 4];
-    let mut given = Given::Nothing;
-    for want in wants {
-        let found = strand.next(&program, given)?;
-        assert!(rt; found == *want, "{found:?}");
-        given = answered(found, &mut elements);
-    }
-    Ok(())
+    let asked = wants_of_program_are(rt, alloc, &program, limits, wants);
+    drop(program);
+    asked
 }
 
 #[test]
 fn strands_of_code_are_asked_want_by_want(rt: HostRuntime) -> Result<(), Fail> {
-    let alloc = rt.alloc();
     let all = [
         Want::Store(0, 0),
         Want::Store(1, 2),
@@ -212,39 +238,21 @@ fn strands_of_code_are_asked_want_by_want(rt: HostRuntime) -> Result<(), Fail> {
         Want::Out(6),
         Want::Done,
     ];
-    wants_are(&rt, alloc, &doubles(), within(9, 6), &all)?;
     let tired = [Want::Store(0, 0), Want::Fault(FaultKind::Fuel)];
-    wants_are(&rt, alloc, &doubles(), within(3, 6), &tired)?;
     let full = [Want::Store(0, 0), Want::Fault(FaultKind::Size)];
-    wants_are(&rt, alloc, &doubles(), within(9, 1), &full)?;
-    wants_are(
-        &rt,
-        alloc,
-        &takes_two(),
-        within(1, 1),
-        &[Want::Out(7), Want::Done],
-    )?;
-    wants_are(
-        &rt,
-        alloc,
-        &beyond(),
-        within(1, 1),
-        &[Want::Fault(FaultKind::Range)],
-    )?;
-    wants_are(
-        &rt,
-        alloc,
-        &deeper(),
-        within(9999, 1),
-        &[Want::Fault(FaultKind::Fuel)],
-    )?;
-    wants_are(
-        &rt,
-        alloc,
-        &deeper(),
-        within(10000, 1),
-        &[Want::Fault(FaultKind::Depth)],
-    )
+    let table: [(Listing, u64, u32, &[Want]); 7] = [
+        (doubles(), 9, 6, &all),
+        (doubles(), 3, 6, &tired),
+        (doubles(), 9, 1, &full),
+        (takes_two(), 1, 1, &[Want::Out(7), Want::Done]),
+        (beyond(), 1, 1, &[Want::Fault(FaultKind::Range)]),
+        (deeper(), 9999, 1, &[Want::Fault(FaultKind::Fuel)]),
+        (deeper(), 10000, 1, &[Want::Fault(FaultKind::Depth)]),
+    ];
+    for (listing, fuel, size, wants) in table {
+        wants_are(&rt, rt.alloc(), &listing, within(fuel, size), wants)?;
+    }
+    Ok(())
 }
 
 // Returns the left strand of the fork that a strand wants.

@@ -1,13 +1,13 @@
 ghost use Rattle.std.specs.Prelude.{◌<◌, length};
 
-use super::buds::{Bud, grown};
+use super::grown::{Bud, grown};
 use cw_base::OutOfMemory;
 use cw_tree::{BlockState, Kind, Tree, Turn};
 use std::alloc::Global;
 use std::process::Abort;
 use std::test::Fail;
 
-// What a tree answers: of how many nodes it is, and of one or two of them.
+// What a tree answers: its number of nodes, and questions about one or two of them.
 #[derive(Clone, Copy)]
 enum Says {
     Size(usize),
@@ -19,7 +19,7 @@ enum Says {
     Victim(u32, u32, Option<u32>),
 }
 
-// Whether a tree answers so of two of its nodes.
+// Whether a tree gives this answer about two of its nodes.
 fn says_of_two(tree: &Tree, says: Says) -> bool {
     let size = tree.nodes().len();
     match says {
@@ -39,7 +39,7 @@ fn says_of_two(tree: &Tree, says: Says) -> bool {
     }
 }
 
-// Whether it answers so.
+// Whether a tree gives this answer.
 fn is_so(tree: &Tree, says: Says) -> bool {
     let size = tree.nodes().len();
     match says {
@@ -145,7 +145,7 @@ fn name_at(tree: &Tree, n: u32) -> Result<Option<String>, OutOfMemory> {
     }
 }
 
-// Whether a node is a strand of that name, or no strand where no name is given.
+// Whether a node is a strand of that name, or no strand if no name is given.
 fn has_name(tree: &Tree, n: u32, name: Option<&str>) -> Result<bool, OutOfMemory> {
     let found = name_at(tree, n)?;
     Ok(match (&found, name) {
@@ -187,7 +187,7 @@ fn forks_that_were_rolled_back_are_not_counted(rt: HostRuntime) -> Result<(), Fa
     Ok(named?)
 }
 
-// How many sides are right ones.
+// The number of right sides.
 fn how_many(sides: &[bool]) -> u32 {
     let mut count = 0u32;
     for side in sides {
@@ -198,7 +198,7 @@ fn how_many(sides: &[bool]) -> u32 {
     count
 }
 
-// Whether the forks of a tree have these numbers, and so many of its strands are right ones.
+// Whether the forks of a tree have these numbers, and `rights` of its strands are right ones.
 fn has_forks(tree: &Tree, numbers: &[u32], right: u32) -> Result<bool, OutOfMemory> {
     let found = tree.fork_numbers()?;
     let same = found.as_slice() == numbers;
@@ -239,7 +239,7 @@ fn forks_have_numbers_and_strands_have_sides(rt: HostRuntime) -> Result<(), Fail
     Ok(())
 }
 
-// How long the name of a node is, where it is a strand.
+// The length of the name of a node, if it is a strand.
 fn name_length(tree: &Tree, n: u32) -> Result<Option<usize>, OutOfMemory> {
     Ok(match name_at(tree, n)? {
         Some(found) => Some(found.len()),
