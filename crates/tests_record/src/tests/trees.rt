@@ -198,7 +198,7 @@ fn how_many(sides: &[bool]) -> u32 {
     count
 }
 
-// Whether the forks of a tree have these numbers, and `rights` of its strands are right ones.
+// Whether the forks of a tree have these numbers, and `right` of its strands are right ones.
 fn has_forks(tree: &Tree, numbers: &[u32], right: u32) -> Result<bool, OutOfMemory> {
     let found = tree.fork_numbers()?;
     let same = found.as_slice() == numbers;
