@@ -39,6 +39,8 @@ of_declarations (Run words limits workers report) ds ws ls r old new is tree run
     let same = replay_ends (strands_of_syntax ds ws ls) r.tree tree.rooted tree.root (first_memory (cells_of ds)) ls.aborts r.conflicts r.end r.order run.replays in
     let (memory, outputs, ends, told) = at_zero r.program.cells r.tree r.end r.order (serial_end (strands_of_syntax ds ws ls) (first_memory (cells_of ds)) r.order) (report_if report r) old new is same written in
     record {
+      named = run.named;
+      takes = run.takes;
       memory = memory;
       outputs = outputs;
       finishes = record { picks = r.order; ends = ends };
@@ -50,6 +52,8 @@ of_declarations (Sim words limits workers schedule report) ds ws ls r old new is
     let same = replay_ends (strands_of_syntax ds ws ls) r.tree tree.rooted tree.root (first_memory (cells_of ds)) ls.aborts r.conflicts r.end r.order run.replays in
     let (memory, outputs, ends, told) = at_zero r.program.cells r.tree r.end r.order (serial_end (strands_of_syntax ds ws ls) (first_memory (cells_of ds)) r.order) (report_if report r) old new is same written in
     record {
+      named = run.named;
+      takes = run.takes;
       memory = memory;
       outputs = outputs;
       finishes = record { picks = r.order; ends = ends };
@@ -60,7 +64,7 @@ of_declarations (Sim words limits workers schedule report) ds ws ls r old new is
 of_declarations (Load transfers workers) ds ws ls r old new is tree run written =
     let same = replay_ends (strands_of_syntax ds ws ls) r.tree tree.rooted tree.root (first_memory (cells_of ds)) ls.aborts r.conflicts r.end r.order run.replays in
     let (memory, outputs, ends, told) = sum_at_zero transfers r.program.cells r.tree r.end r.order (serial_end (strands_of_syntax ds ws ls) (first_memory (cells_of ds)) r.order) old new is same written in
-    record { memory = memory; outputs = outputs; finishes = record { picks = r.order; ends = ends }; text = summary_text transfers memory; is_text = refl; written = told }
+    record { named = run.named; takes = run.takes; memory = memory; outputs = outputs; finishes = record { picks = r.order; ends = ends }; text = summary_text transfers memory; is_text = refl; written = told }
 
 -- the same of a command and its source
 of_command : (c : Command) (left old new : Option (List ℕ)) (r : Record) → 0 ≡ status_of_end r.end → IsNumbered r.tree → IsRunOfSource (Some c) left r → Appends old new (text_in (telling_of c) r) → IsOneMemory (Some c) left old new

@@ -1,13 +1,13 @@
--- What a run that finished has written, said with one memory alone. What this file cites is the grammar, the names, the meaning over the
--- syntax, the machine with one memory and the texts: no tree of a run, no record, no order of one, no instructions.
-use Rattle.std.specs.Prelude.{◌≡◌, ℕ, ℤ, List, [], ◌++◌, Bool, true, false, Option, Some, None, Ok, IfSome}
+-- What a run that finished has written, said with one memory alone. What this file cites is the grammar, the naming rules, the meaning over
+-- the syntax, the machine with one memory and the texts: no tree of a run, no record, no order of one, no instructions.
+use Rattle.std.specs.Prelude.{◌≡◌, ℕ, ℤ, List, [], ◌++◌, length, Bool, true, false, Option, Some, None, Ok, IfSome}
 use Rattle.cw_io.specs.Outside.{Appends}
 use Rattle.cw_text.specs.Syntax.{Declaration, Source}
 use Rattle.cw_text.specs.Text.{program}
 use Rattle.cw_code.specs.declared.Limits.{Limits}
 use Rattle.cw_code.specs.declared.CellInfo.{CellInfo}
-use Rattle.cw_strand.specs.Names.{cells_of, first_memory}
-use Rattle.cw_strand.specs.Meaning.{strands_of_syntax}
+use Rattle.cw_strand.specs.Names.{naming_fault, cells_of, first_memory}
+use Rattle.cw_strand.specs.Meaning.{MainTakes, strands_of_syntax}
 use Rattle.cw_tree.specs.declared.picks.Picks.{Picks}
 use Rattle.cw_serial.specs.declared.ends.SerialEnd.TheVariants.{Finished}
 use Rattle.cw_serial.specs.Machine.{serial_end}
@@ -24,7 +24,7 @@ pub record Finishes (words : List ℤ) (limits : Limits) (source : List Declarat
   pub picks : Picks
   pub ends : serial_end (strands_of_syntax source words limits) (first_memory (cells_of source)) picks ≡ Finished memory outputs
 
--- The result, and behind it, if a report is asked for, that report.
+-- The result, and behind it, if a report is asked for, some more: what the report says is not part of this claim.
 abbrev pub IsResultText : (report : Bool) → (result text : List ℕ) → Type 0
 IsResultText false result text = text ≡ result
 IsResultText true result text = (behind : List ℕ) × (text ≡ result ++ behind)
@@ -37,6 +37,9 @@ IsTextOfEnd (Load transfers workers) cells memory outputs text = text ≡ summar
 
 -- One memory, running these declarations, can finish so that the text of its outputs and cells is what was written.
 pub record WritesWhatOneMemoryGives (command : Command) (words : List ℤ) (limits : Limits) (source : List Declaration) (old new : Option (List ℕ)) : Type 0 where
+  -- no name in them is at fault, and their main takes these words
+  pub named : naming_fault source ≡ None
+  pub takes : MainTakes source (length words)
   pub memory : List ℤ
   pub outputs : List ℤ
   pub finishes : Finishes words limits source memory outputs

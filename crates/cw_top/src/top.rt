@@ -166,8 +166,9 @@ pub fn cwstm<R: Threads + Wait + Sync, S: Source, K: Sink, G: Gate>(
     // With status 0 the text of what one memory comes to was written.
     ensures finished { result.status ≡ 0 → IsSomeAnd result.kept (λ r. WritesEndOfOneMemory (command_in words.now) r (K.written sink.old) (K.written sink.new)) }
 
-    // The same without a word of records: there is an order of picks under which one memory, running the strands of the syntax tree that the
-    // bytes spell, ends finished, and what was written is the text of its outputs and its cells. No atomic block is interrupted in it.
+    // The same without a word of records. If the source tells its bytes and the sink what it got, there is an order of picks under which one
+    // memory, running the strands of the syntax tree that the bytes spell, ends finished, and what was written is the text of its outputs and
+    // its cells; a report may follow. No atomic block is interrupted in that order. For a load it is the tree of its own program, and its summary.
     ensures one_memory { result.status ≡ 0 → IsOneMemory (command_in words.now) (S.left source.old) (K.written sink.old) (K.written sink.new) }
 
     // With status 7 a strand spent its budget, and one memory comes to where it stands. In a simulation each of its attempts is
