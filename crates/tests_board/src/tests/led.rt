@@ -1,6 +1,6 @@
 //! Strands that a test leads on a board. What a call asks is looked up in the token, or known from the calls before. If it is not
 //! met, the test gets `OutOfMemory`.
-ghost use Rattle.std.specs.Prelude.{◌≡◌, ◌<◌, ◌∷◌, [], All, Contains, IsTrue, IfOk, OnOk, true, false, if◌then◌else◌};
+ghost use Rattle.std.specs.Prelude.{◌≡◌, ◌<◌, ◌∷◌, [], All, Contains, IsTrue, IfOk, true, false, if◌then◌else◌};
 ghost use Rattle.cw_log.specs.declared.log.Above.{Above};
 ghost use Rattle.cw_log.specs.declared.token.Phase.TheVariants.{Going, Parted, Waiting};
 ghost use Rattle.cw_log.specs.Tokens.{conflicts_in, logs, root_token, Fells, GoesFree};
@@ -189,10 +189,11 @@ fn goes(token: &StrandToken, stand: &Stand, budget: u32) -> bool
     )
 }
 
-fn met(holds: bool) -> Result<(), OutOfMemory>
-    ensures { OnOk result (IsTrue holds) }
-{
-    if holds { Ok(()) } else { Err(OutOfMemory) }
+/// What is answered where a strand goes no further.
+fn lost(token: StrandToken, stand: Stand) -> OutOfMemory {
+    drop(token);
+    drop(stand);
+    OutOfMemory
 }
 
 impl Stand {
@@ -215,8 +216,20 @@ impl Stand {
         ensures { IfOk result (λ s. s ≡ record self { strand = strand; forks = fork ∷ self.forks; strands = self.strand ∷ self.strands }) }
     {
         let mut stand = self;
-        stand.forks.push(fork)?;
-        stand.strands.push(stand.strand)?;
+        match stand.forks.push(fork) {
+            Ok(()) => {}
+            Err(fault) => {
+                drop(stand);
+                return Err(fault);
+            }
+        }
+        match stand.strands.push(stand.strand) {
+            Ok(()) => {}
+            Err(fault) => {
+                drop(stand);
+                return Err(fault);
+            }
+        }
         stand.strand = strand;
         Ok(stand)
     }
@@ -249,9 +262,13 @@ impl Stand {
         let fork = stand.forks.pop();
         let strand = stand.strands.pop();
         let (Some(fork), Some(strand)) = (fork, strand) else {
+            drop(stand);
+            drop(right);
             return Err(OutOfMemory);
         };
         if fork != right.fork || right.forks.len() > 0 {
+            drop(stand);
+            drop(right);
             return Err(OutOfMemory);
         }
         stand.strand = strand;
@@ -260,6 +277,7 @@ impl Stand {
         } else {
             Phase::Going
         };
+        drop(right);
         Ok(stand)
     }
 
@@ -347,26 +365,39 @@ impl<N: Naming> Scene<N> {
 
     pub(super) fn close(self, root: Strand<N>) -> Result<Closed, OutOfMemory> {
         let Scene { board, .. } = self;
-        let Strand { token, .. } = root;
+        let Strand { token, stand, .. } = root;
+        drop(stand);
         match board.close(token) {
             Ok(closed) => Ok(closed),
-            Err((_, _, error)) => Err(error),
+            Err((board, token, error)) => {
+                drop(board);
+                drop(token);
+                Err(error)
+            }
         }
     }
 
     pub(super) fn begin(&self, led: Strand<N>) -> Result<Strand<N>, OutOfMemory> {
         let Strand { token, stand, .. } = led;
         let mut token = token;
-        met(goes(&token, &stand, self.budget))?;
-        self.board.begin(&mut token)?;
-        Ok(strand_of(token, stand))
+        if !goes(&token, &stand, self.budget) {
+            return Err(lost(token, stand));
+        }
+        match self.board.begin(&mut token) {
+            Ok(()) => Ok(strand_of(token, stand)),
+            Err(_) => Err(lost(token, stand)),
+        }
     }
 
     pub(super) fn commit(&self, led: Strand<N>) -> Result<Strand<N>, OutOfMemory> {
         let Strand { token, stand, .. } = led;
         let mut token = token;
-        met(goes(&token, &stand, self.budget))?;
-        met(token.place() != stand.strand)?;
+        if !goes(&token, &stand, self.budget) {
+            return Err(lost(token, stand));
+        }
+        if token.place() == stand.strand {
+            return Err(lost(token, stand));
+        }
         self.board.commit(&mut token);
         Ok(strand_of(token, stand))
     }
@@ -374,9 +405,13 @@ impl<N: Naming> Scene<N> {
     pub(super) fn out(&self, led: Strand<N>, value: i64) -> Result<Strand<N>, OutOfMemory> {
         let Strand { token, stand, .. } = led;
         let mut token = token;
-        met(goes(&token, &stand, self.budget))?;
-        self.board.out(&mut token, value)?;
-        Ok(strand_of(token, stand))
+        if !goes(&token, &stand, self.budget) {
+            return Err(lost(token, stand));
+        }
+        match self.board.out(&mut token, value) {
+            Ok(()) => Ok(strand_of(token, stand)),
+            Err(_) => Err(lost(token, stand)),
+        }
     }
 
     pub(super) fn access<R: Wait>(
@@ -388,10 +423,16 @@ impl<N: Naming> Scene<N> {
     ) -> Result<(Strand<N>, Access), OutOfMemory> {
         let Strand { token, stand, .. } = led;
         let mut token = token;
-        met(goes(&token, &stand, self.budget))?;
-        met(cell < self.cells)?;
-        let access = self.board.access(rt, &mut token, cell, write)?;
-        Ok((strand_of(token, stand), access))
+        if !goes(&token, &stand, self.budget) {
+            return Err(lost(token, stand));
+        }
+        if cell >= self.cells {
+            return Err(lost(token, stand));
+        }
+        match self.board.access(rt, &mut token, cell, write) {
+            Ok(access) => Ok((strand_of(token, stand), access)),
+            Err(_) => Err(lost(token, stand)),
+        }
     }
 
     pub(super) fn chain<R: Wait>(
@@ -402,9 +443,13 @@ impl<N: Naming> Scene<N> {
     ) -> Result<(Strand<N>, Vec<u64>), OutOfMemory> {
         let Strand { token, stand, .. } = led;
         let mut token = token;
-        met(cell < self.cells)?;
-        let chain = self.board.chain(rt, &mut token, cell)?;
-        Ok((strand_of(token, stand), chain))
+        if cell >= self.cells {
+            return Err(lost(token, stand));
+        }
+        match self.board.chain(rt, &mut token, cell) {
+            Ok(chain) => Ok((strand_of(token, stand), chain)),
+            Err(_) => Err(lost(token, stand)),
+        }
     }
 
     pub(super) fn ask<R: Wait>(&self, rt: &R, led: Strand<N>, last: Mark) -> (Strand<N>, Verdict) {
@@ -421,27 +466,41 @@ impl<N: Naming> Scene<N> {
         led: Strand<N>,
     ) -> Result<(Strand<N>, Strand<N>), OutOfMemory> {
         let Strand { token, stand, .. } = led;
-        met(goes(&token, &stand, self.budget))?;
+        if !goes(&token, &stand, self.budget) {
+            return Err(lost(token, stand));
+        }
         match self.board.fork(rt, token) {
             Ok(Forked::Two { fork, left, right }) => {
                 let strand = self.board.place(&left);
-                let inner = stand.left(strand, fork)?;
-                let begin = Stand::right(self.alloc, fork);
-                Ok((strand_of(left, inner), strand_of(right, begin)))
+                match stand.left(strand, fork) {
+                    Ok(inner) => {
+                        let begin = Stand::right(self.alloc, fork);
+                        Ok((strand_of(left, inner), strand_of(right, begin)))
+                    }
+                    Err(error) => {
+                        drop(left);
+                        drop(right);
+                        Err(error)
+                    }
+                }
             }
-            Ok(Forked::Inline { .. }) => Err(OutOfMemory),
-            Err((_, error)) => Err(error),
+            Ok(Forked::Inline { token }) => Err(lost(token, stand)),
+            Err((token, _)) => Err(lost(token, stand)),
         }
     }
 
     pub(super) fn split<R: Wait>(&self, rt: &R, led: Strand<N>) -> Result<Strand<N>, OutOfMemory> {
         let Strand { token, stand, .. } = led;
         let mut token = token;
-        met(stand.waits())?;
-        met(is_unspent(&token, self.budget))?;
+        if !stand.waits() {
+            return Err(lost(token, stand));
+        }
+        if !is_unspent(&token, self.budget) {
+            return Err(lost(token, stand));
+        }
         match self.board.split(rt, &mut token, stand.fork) {
             Ok(()) => Ok(strand_of(token, stand.split())),
-            Err(_) => Err(OutOfMemory),
+            Err(_) => Err(lost(token, stand)),
         }
     }
 
@@ -452,19 +511,35 @@ impl<N: Naming> Scene<N> {
             stand: ended,
             ..
         } = right;
-        met(stand.is_done(token.place()))?;
-        met(ended.is_done(ending.place()))?;
-        let outer = stand.behind(ended)?;
-        let token = self.board.join(token, ending);
-        Ok(strand_of(token, outer))
+        if !stand.is_done(token.place()) {
+            let _ = lost(ending, ended);
+            return Err(lost(token, stand));
+        }
+        if !ended.is_done(ending.place()) {
+            let _ = lost(ending, ended);
+            return Err(lost(token, stand));
+        }
+        match stand.behind(ended) {
+            Ok(outer) => {
+                let token = self.board.join(token, ending);
+                Ok(strand_of(token, outer))
+            }
+            Err(error) => {
+                drop(token);
+                drop(ending);
+                Err(error)
+            }
+        }
     }
 
     pub(super) fn merge<R: Wait>(&self, rt: &R, led: Strand<N>) -> Result<Strand<N>, OutOfMemory> {
         let Strand { token, stand, .. } = led;
         let mut token = token;
-        met(is_unspent(&token, self.budget))?;
+        if !is_unspent(&token, self.budget) {
+            return Err(lost(token, stand));
+        }
         let Phase::Parted(fork) = stand.phase else {
-            return Err(OutOfMemory);
+            return Err(lost(token, stand));
         };
         self.board.merge(rt, &mut token, fork);
         Ok(strand_of(token, stand.going()))
@@ -473,10 +548,18 @@ impl<N: Naming> Scene<N> {
     pub(super) fn roll<R: Wait>(&self, rt: &R, led: Strand<N>) -> Result<Strand<N>, OutOfMemory> {
         let Strand { token, stand, .. } = led;
         let mut token = token;
-        met(token.place() != stand.strand)?;
-        met(stand.is_going())?;
-        met(is_unspent(&token, self.budget))?;
-        met(is_felled(&token))?;
+        if token.place() == stand.strand {
+            return Err(lost(token, stand));
+        }
+        if !stand.is_going() {
+            return Err(lost(token, stand));
+        }
+        if !is_unspent(&token, self.budget) {
+            return Err(lost(token, stand));
+        }
+        if !is_felled(&token) {
+            return Err(lost(token, stand));
+        }
         self.board.roll(rt, &mut token);
         Ok(strand_of(token, stand))
     }

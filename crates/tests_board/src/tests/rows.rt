@@ -9,7 +9,8 @@ use cw_base::OutOfMemory;
 use cw_board::{Board, Naming};
 use cw_code::Limits;
 use cw_log::Access;
-use cw_tree::{Closed, Conflict, Mark};
+use cw_trace::Verdict;
+use cw_tree::{Closed, Conflict, Entry, Mark, Node};
 use std::alloc::Global;
 use std::marker::Brand;
 use std::sync::Wait;
@@ -53,58 +54,64 @@ fn taken<N: Naming>(cast: &mut Cast<N>, n: usize) -> Result<Strand<N>, OutOfMemo
 }
 
 fn put<N: Naming>(cast: &mut Cast<N>, n: usize, led: Strand<N>) {
-    if let Some(place) = cast.get_mut(n) {
-        *place = Some(led);
+    match cast.get_mut(n) {
+        Some(place) => drop(place.replace(led)),
+        None => drop(led),
     }
+}
+
+/// Writes a word and a number after it.
+fn number_told(text: &mut String, word: &str, number: u64) -> Result<(), Fail> {
+    text.push_str(word)?;
+    write!(text, "{number}")?;
+    Ok(())
 }
 
 /// Writes the stamps of a chain, each followed by a blank.
-fn stamps_told(alloc: Global, chain: &[u64]) -> Result<String, Fail> {
-    let mut text = String::new(alloc);
+fn stamps_told(text: &mut String, chain: &[u64]) -> Result<(), Fail> {
     for stamp in chain {
-        let line = format!(in alloc; "{stamp} ")?;
-        text.push_str(line.as_str())?;
+        number_told(text, "", *stamp)?;
+        text.push_str(" ")?;
     }
-    Ok(text)
+    Ok(())
 }
 
-/// Writes the block that was met, the victim and the attempt.
-fn cause_told(alloc: Global, conflict: &Conflict) -> Result<String, Fail> {
-    let Conflict {
-        block,
-        victim,
-        attempt,
-        ..
-    } = conflict;
-    Ok(format!(in alloc; "block {block} victim {victim} attempt {attempt} of ")?)
+/// Writes a conflict, with the block that was met, the victim and the attempt.
+fn conflict_told(text: &mut String, conflict: &Conflict) -> Result<(), Fail> {
+    let numbers = [
+        ("conflict ", u64::from(conflict.cell)),
+        (" last ", conflict.last),
+        (" asker ", u64::from(conflict.asker)),
+        (" block ", conflict.block),
+        (" victim ", conflict.victim),
+        (" attempt ", u64::from(conflict.attempt)),
+    ];
+    for (word, number) in numbers {
+        number_told(text, word, number)?;
+    }
+    text.push_str(" of ")?;
+    stamps_told(text, conflict.chain.as_slice())
 }
 
-fn conflict_told(alloc: Global, conflict: &Conflict) -> Result<String, Fail> {
-    let Conflict {
-        cell,
-        last,
-        asker,
-        ..
-    } = conflict;
-    let mut text = format!(in alloc; "conflict {cell} last {last} asker {asker} ")?;
-    let cause = cause_told(alloc, conflict)?;
-    text.push_str(cause.as_str())?;
-    let chain = stamps_told(alloc, conflict.chain.as_slice())?;
-    text.push_str(chain.as_str())?;
-    Ok(text)
+fn value_told(text: &mut String, value: i64) -> Result<(), Fail> {
+    write!(text, "{value} ")?;
+    Ok(())
 }
 
-fn chain_told(alloc: Global, chain: &[u64]) -> Result<String, Fail> {
-    let mut text = format!(in alloc; "chain ")?;
-    let stamps = stamps_told(alloc, chain)?;
-    text.push_str(stamps.as_str())?;
-    Ok(text)
+fn verdict_told(text: &mut String, verdict: Verdict) -> Result<(), Fail> {
+    write!(text, "{verdict:?} ")?;
+    Ok(())
 }
 
-fn access_told(alloc: Global, access: &Access) -> Result<String, Fail> {
+fn chain_told(text: &mut String, chain: &[u64]) -> Result<(), Fail> {
+    text.push_str("chain ")?;
+    stamps_told(text, chain)
+}
+
+fn access_told(text: &mut String, access: &Access) -> Result<(), Fail> {
     match access {
-        Access::Value(value) => Ok(format!(in alloc; "{value} ")?),
-        Access::Conflict(conflict) => conflict_told(alloc, conflict),
+        Access::Value(value) => value_told(text, *value),
+        Access::Conflict(conflict) => conflict_told(text, conflict),
     }
 }
 
@@ -122,43 +129,86 @@ fn moved<N: Naming, R: Wait>(
         Call::Split(_) => scene.split(rt, led),
         Call::Merge(_) => scene.merge(rt, led),
         Call::Roll(_) => scene.roll(rt, led),
-        _ => Ok(led),
+        Call::Read(_, _)
+        | Call::Write(_, _, _)
+        | Call::Fork(_)
+        | Call::Join(_, _)
+        | Call::Chain(_, _)
+        | Call::Ask(_, _, _) => Ok(led),
+    }
+}
+
+/// Returns the strand, once what its call returned is written.
+fn kept<N: Naming>(led: Strand<N>, told: Result<(), Fail>) -> Result<Strand<N>, Fail> {
+    match told {
+        Ok(()) => Ok(led),
+        Err(fault) => {
+            drop(led);
+            Err(fault)
+        }
     }
 }
 
 /// Makes an access, and writes what it returns.
 fn accessed<N: Naming, R: Wait>(
     rt: &R,
-    alloc: Global,
+    scene: &Scene<N>,
+    led: Strand<N>,
+    access: (u32, Option<i64>),
+    text: &mut String,
+) -> Result<Strand<N>, Fail> {
+    let (cell, write) = access;
+    let (led, access) = scene.access(rt, led, cell, write)?;
+    let told = access_told(text, &access);
+    drop(access);
+    kept(led, told)
+}
+
+fn chained<N: Naming, R: Wait>(
+    rt: &R,
     scene: &Scene<N>,
     led: Strand<N>,
     cell: u32,
-    write: Option<i64>,
-) -> Result<(Strand<N>, String), Fail> {
-    let (led, access) = scene.access(rt, led, cell, write)?;
-    Ok((led, access_told(alloc, &access)?))
+    text: &mut String,
+) -> Result<Strand<N>, Fail> {
+    let (led, chain) = scene.chain(rt, led, cell)?;
+    let told = chain_told(text, chain.as_slice());
+    drop(chain);
+    kept(led, told)
+}
+
+fn asked<N: Naming, R: Wait>(
+    rt: &R,
+    scene: &Scene<N>,
+    led: Strand<N>,
+    last: Mark,
+    text: &mut String,
+) -> Result<Strand<N>, Fail> {
+    let (led, verdict) = scene.ask(rt, led, last);
+    kept(led, verdict_told(text, verdict))
 }
 
 /// Makes a call other than fork or join, and writes what it returns.
 fn told<N: Naming, R: Wait>(
     rt: &R,
-    alloc: Global,
     scene: &Scene<N>,
     led: Strand<N>,
     call: Call,
-) -> Result<(Strand<N>, String), Fail> {
+    text: &mut String,
+) -> Result<Strand<N>, Fail> {
     match call {
-        Call::Read(_, cell) => accessed(rt, alloc, scene, led, cell, None),
-        Call::Write(_, cell, value) => accessed(rt, alloc, scene, led, cell, Some(value)),
-        Call::Chain(_, cell) => {
-            let (led, chain) = scene.chain(rt, led, cell)?;
-            Ok((led, chain_told(alloc, chain.as_slice())?))
-        }
-        Call::Ask(_, strand, stamp) => {
-            let (led, verdict) = scene.ask(rt, led, Mark { strand, stamp });
-            Ok((led, format!(in alloc; "{verdict:?} ")?))
-        }
-        _ => Ok((moved(rt, scene, led, call)?, String::new(alloc))),
+        Call::Read(_, cell) => accessed(rt, scene, led, (cell, None), text),
+        Call::Write(_, cell, value) => accessed(rt, scene, led, (cell, Some(value)), text),
+        Call::Chain(_, cell) => chained(rt, scene, led, cell, text),
+        Call::Ask(_, strand, stamp) => asked(rt, scene, led, Mark { strand, stamp }, text),
+        Call::Begin(_)
+        | Call::Commit(_)
+        | Call::Out(_, _)
+        | Call::Fork(_)
+        | Call::Split(_)
+        | Call::Join(_, _)
+        | Call::Merge(_)
+        | Call::Roll(_) => Ok(moved(rt, scene, led, call)?),
     }
 }
 
@@ -179,59 +229,132 @@ fn who(call: Call) -> usize {
     }
 }
 
+fn forked<N: Naming, R: Wait>(
+    rt: &R,
+    scene: &Scene<N>,
+    cast: &mut Cast<N>,
+    n: usize,
+) -> Result<(), Fail> {
+    let led = taken(cast, n)?;
+    let (left, right) = scene.fork(rt, led)?;
+    put(cast, n, left);
+    cast.push(Some(right))?;
+    Ok(())
+}
+
+fn joined<N: Naming>(
+    scene: &Scene<N>,
+    cast: &mut Cast<N>,
+    n: usize,
+    other: usize,
+) -> Result<(), Fail> {
+    let left = taken(cast, n)?;
+    let right = match taken(cast, other) {
+        Ok(right) => right,
+        Err(fault) => {
+            drop(left);
+            return Err(fault.into());
+        }
+    };
+    put(cast, n, scene.join(left, right)?);
+    Ok(())
+}
+
 /// Makes a call, and writes what it returns.
 fn called<N: Naming, R: Wait>(
     rt: &R,
-    alloc: Global,
     scene: &Scene<N>,
     cast: &mut Cast<N>,
     call: Call,
-) -> Result<String, Fail> {
+    text: &mut String,
+) -> Result<(), Fail> {
     let n = who(call);
-    let led = taken(cast, n)?;
     match call {
-        Call::Fork(_) => {
-            let (left, right) = scene.fork(rt, led)?;
-            put(cast, n, left);
-            cast.push(Some(right))?;
-            Ok(format!(in alloc; "")?)
-        }
-        Call::Join(_, other) => {
-            let right = taken(cast, other)?;
-            put(cast, n, scene.join(led, right)?);
-            Ok(format!(in alloc; "")?)
-        }
+        Call::Fork(_) => forked(rt, scene, cast, n),
+        Call::Join(_, other) => joined(scene, cast, n, other),
         _ => {
-            let (led, text) = told(rt, alloc, scene, led, call)?;
-            put(cast, n, led);
-            Ok(text)
+            let led = taken(cast, n)?;
+            put(cast, n, told(rt, scene, led, call, text)?);
+            Ok(())
         }
     }
 }
 
+/// Writes the stamp of a node, with the end of a block.
+fn node_told(text: &mut String, node: &Node) -> Result<(), Fail> {
+    number_told(text, " ", node.stamp)?;
+    if node.end > 0 {
+        number_told(text, "-", node.end)?;
+    }
+    Ok(())
+}
+
+fn entry_told(text: &mut String, entry: &Entry) -> Result<(), Fail> {
+    number_told(text, " ", entry.mark.stamp)?;
+    write!(text, "={}", entry.value)?;
+    Ok(())
+}
+
+fn entries_told(text: &mut String, entries: &[Entry]) -> Result<(), Fail> {
+    text.push_str(" cell")?;
+    for entry in entries {
+        entry_told(text, entry)?;
+    }
+    Ok(())
+}
+
 /// Writes the stamps of the nodes with the ends of blocks, the conflicts, and the stamps and values of each cell's entries.
-fn closed_told(alloc: Global, closed: &Closed) -> Result<String, Fail> {
-    let mut text = format!(in alloc; "nodes")?;
+fn closed_told(text: &mut String, closed: &Closed) -> Result<(), Fail> {
+    text.push_str("nodes")?;
     for node in closed.tree.nodes() {
-        let line = if node.end > 0 {
-            format!(in alloc; " {}-{}", node.stamp, node.end)?
-        } else {
-            format!(in alloc; " {}", node.stamp)?
-        };
-        text.push_str(line.as_str())?;
+        node_told(text, node)?;
     }
     for conflict in closed.conflicts.as_slice() {
-        let line = format!(in alloc; " refused {} by {}", conflict.asker, conflict.block)?;
-        text.push_str(line.as_str())?;
+        number_told(text, " refused ", u64::from(conflict.asker))?;
+        number_told(text, " by ", conflict.block)?;
     }
     for journal in closed.journals.as_slice() {
-        text.push_str(" cell")?;
-        for entry in journal.as_slice() {
-            let line = format!(in alloc; " {}={}", entry.mark.stamp, entry.value)?;
-            text.push_str(line.as_str())?;
-        }
+        entries_told(text, journal.as_slice())?;
     }
-    Ok(text)
+    Ok(())
+}
+
+/// Makes the calls and writes what they return. Returns the root's strand.
+fn all_called<N: Naming, R: Wait>(
+    rt: &R,
+    scene: &Scene<N>,
+    cast: &mut Cast<N>,
+    calls: &[Call],
+    text: &mut String,
+) -> Result<Strand<N>, Fail> {
+    for call in calls {
+        called(rt, scene, cast, *call, text)?;
+    }
+    Ok(taken(cast, 0)?)
+}
+
+/// Makes the calls, of which the first strand is the root.
+fn plays<N: Naming, R: Wait>(
+    rt: &R,
+    alloc: Global,
+    scene: &Scene<N>,
+    root: Strand<N>,
+    calls: &[Call],
+    text: &mut String,
+) -> Result<Strand<N>, Fail> {
+    let mut cast: Cast<N> = Vec::new(alloc);
+    cast.push(Some(root))?;
+    let root = all_called(rt, scene, &mut cast, calls, text);
+    drop(cast);
+    root
+}
+
+/// Writes what the board leaves.
+fn closes<N: Naming>(scene: Scene<N>, root: Strand<N>, text: &mut String) -> Result<(), Fail> {
+    let closed = scene.close(root)?;
+    let told = closed_told(text, &closed);
+    drop(closed);
+    told
 }
 
 /// Writes what the calls return, and what the board leaves.
@@ -241,7 +364,8 @@ fn played<N: Naming, R: Wait>(
     made: (Board, cw_steps::StrandToken),
     cells: u32,
     calls: &[Call],
-) -> Result<String, Fail>
+    text: &mut String,
+) -> Result<(), Fail>
     requires name { (table_of made.0 ≡ N.table) × (columns_of made.0 ≡ N.columns) }
     requires size { (budget_of made.0 ≡ 9) × (cells_in made.0 ≡ cells) }
     requires of { IsOf made.0 made.1 }
@@ -249,50 +373,64 @@ fn played<N: Naming, R: Wait>(
 {
     let (board, token) = made;
     let (scene, root) = Scene::<N>::new(alloc, board, token, cells, 9);
-    let mut cast: Cast<N> = Vec::new(alloc);
-    cast.push(Some(root))?;
-    let mut text = format!(in alloc; "")?;
-    for call in calls {
-        let line = called(rt, alloc, &scene, &mut cast, *call)?;
-        text.push_str(line.as_str())?;
+    match plays(rt, alloc, &scene, root, calls, text) {
+        Ok(root) => closes(scene, root, text),
+        Err(fault) => {
+            drop(scene);
+            Err(fault)
+        }
     }
-    let root = taken(&mut cast, 0)?;
-    let closed = scene.close(root)?;
-    let line = closed_told(alloc, &closed)?;
-    text.push_str(line.as_str())?;
-    Ok(text)
 }
 
 /// Like `played`, on a new board with the cells `init`.
-fn row<R: Wait>(rt: &R, alloc: Global, init: &[i64], calls: &[Call]) -> Result<String, Fail> {
+fn row<R: Wait>(
+    rt: &R,
+    alloc: Global,
+    init: &[i64],
+    calls: &[Call],
+    text: &mut String,
+) -> Result<(), Fail> {
     let made = Board::new(alloc, init, LIMITS)?;
     let cells = init.len() as u32;
-    played::<Brand, R>(rt, alloc, made, cells, calls)
+    played::<Brand, R>(rt, alloc, made, cells, calls, text)
 }
 
-#[test]
-fn one_strand_reads_what_it_wrote(rt: HostRuntime) -> Result<(), Fail> {
-    let calls = [
-        Call::Write(0, 0, 5),
-        Call::Chain(0, 0),
-        Call::Ask(0, 0, 1),
-        Call::Begin(0),
-        Call::Read(0, 0),
-        Call::Ask(0, 0, 3),
-        Call::Commit(0),
-        Call::Out(0, 7),
-    ];
-    let text = row(&rt, rt.alloc(), &[0], &calls)?;
-    assert_eq!(rt;
-        text.as_str(),
-        "5 chain 1 Free 5 Within nodes 0 1 2-4 3 5 cell 1=5 3=5"
-    );
-    Ok(())
+/// Whether the calls of a row answer what is wanted; the row is named where they do not.
+fn expect<R: Wait>(
+    rt: &R,
+    alloc: Global,
+    name: &str,
+    init: &[i64],
+    calls: &[Call],
+    wanted: &str,
+) -> Result<(), Fail> {
+    let mut text = String::new(alloc);
+    row(rt, alloc, init, calls, &mut text)?;
+    if text.as_str() == wanted {
+        Ok(())
+    } else {
+        Err((name, text).into())
+    }
 }
 
 #[test]
 fn strands_take_turns(rt: HostRuntime) -> Result<(), Fail> {
-    let table: [(&str, &[i64], &[Call], &str); 5] = [
+    let table: [(&str, &[i64], &[Call], &str); 6] = [
+        (
+            "one strand reads what it wrote",
+            &[0],
+            &[
+                Call::Write(0, 0, 5),
+                Call::Chain(0, 0),
+                Call::Ask(0, 0, 1),
+                Call::Begin(0),
+                Call::Read(0, 0),
+                Call::Ask(0, 0, 3),
+                Call::Commit(0),
+                Call::Out(0, 7),
+            ],
+            "5 chain 1 Free 5 Within nodes 0 1 2-4 3 5 cell 1=5 3=5",
+        ),
         (
             "an update is lost in a block",
             &[0],
@@ -417,8 +555,7 @@ fn strands_take_turns(rt: HostRuntime) -> Result<(), Fail> {
         ),
     ];
     for (name, init, calls, wanted) in table {
-        let text = row(&rt, rt.alloc(), init, calls)?;
-        assert_eq!(rt; text.as_str(), wanted, "{name}");
+        expect(&rt, rt.alloc(), name, init, calls, wanted)?;
     }
     Ok(())
 }

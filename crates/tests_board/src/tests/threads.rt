@@ -31,6 +31,19 @@ const SHARED: u32 = 4;
 /// The number of accesses in all.
 const ACCESSES: u32 = 100_000;
 
+/// Returns the value of a granted access.
+fn granted<N: Naming>(found: (Strand<N>, Access)) -> Result<(Strand<N>, i64), OutOfMemory> {
+    let (led, access) = found;
+    match access {
+        Access::Value(value) => Ok((led, value)),
+        Access::Conflict(conflict) => {
+            drop(conflict);
+            drop(led);
+            Err(OutOfMemory)
+        }
+    }
+}
+
 /// Adds 1 to the value of a cell.
 fn adds<N: Naming, R: Wait>(
     rt: &R,
@@ -38,13 +51,9 @@ fn adds<N: Naming, R: Wait>(
     led: Strand<N>,
     cell: u32,
 ) -> Result<Strand<N>, OutOfMemory> {
-    let (led, Access::Value(value)) = scene.access(rt, led, cell, None)? else {
-        return Err(OutOfMemory);
-    };
+    let (led, value) = granted(scene.access(rt, led, cell, None)?)?;
     let next = value.wrapping_add(1);
-    let (led, Access::Value(_)) = scene.access(rt, led, cell, Some(next))? else {
-        return Err(OutOfMemory);
-    };
+    let (led, _) = granted(scene.access(rt, led, cell, Some(next))?)?;
     Ok(led)
 }
 
@@ -71,19 +80,33 @@ fn parts<N: Naming, R: Wait>(
     led: Strand<N>,
 ) -> Result<(Strand<N>, Strand<N>), OutOfMemory> {
     let (left, right) = scene.fork(rt, led)?;
-    let right = scene.split(rt, right)?;
-    Ok((left, right))
+    match scene.split(rt, right) {
+        Ok(right) => Ok((left, right)),
+        Err(fault) => {
+            drop(left);
+            Err(fault)
+        }
+    }
 }
 
 /// Joins both strands, and returns the strand that forked.
 fn meets<N: Naming, R: Wait>(
     rt: &R,
     scene: &Scene<N>,
-    left: Strand<N>,
-    right: Strand<N>,
+    left: Result<Strand<N>, OutOfMemory>,
+    right: Result<Strand<N>, OutOfMemory>,
 ) -> Result<Strand<N>, OutOfMemory> {
-    let led = scene.join(left, right)?;
-    scene.merge(rt, led)
+    match (left, right) {
+        (Ok(left), Ok(right)) => {
+            let led = scene.join(left, right)?;
+            scene.merge(rt, led)
+        }
+        (left, right) => {
+            drop(left);
+            drop(right);
+            Err(OutOfMemory)
+        }
+    }
 }
 
 /// Both strands of a fork count, each on a thread of its own.
@@ -101,7 +124,7 @@ fn pair<N: Naming, R: Threads + Wait + Sync>(
         || counts(rt, scene, left, first, times),
         || counts(rt, scene, right, second, times),
     );
-    meets(rt, scene, left?, right?)
+    meets(rt, scene, left, right)
 }
 
 /// Both strands of two forks count.
@@ -117,7 +140,7 @@ fn pairs<N: Naming, R: Threads + Wait + Sync>(
         || pair(rt, scene, left, (0, 1), times),
         || pair(rt, scene, right, (2, 3), times),
     );
-    meets(rt, scene, left?, right?)
+    meets(rt, scene, left, right)
 }
 
 fn counted<N: Naming, R: Threads + Wait + Sync>(
@@ -134,11 +157,17 @@ fn counted<N: Naming, R: Threads + Wait + Sync>(
     let (board, token) = made;
     let (scene, root) = Scene::<N>::new(alloc, board, token, 5, 9);
     let root = if threads == 2 {
-        pair(rt, &scene, root, (0, 1), ACCESSES / 8)?
+        pair(rt, &scene, root, (0, 1), ACCESSES / 8)
     } else {
-        pairs(rt, &scene, root, ACCESSES / 16)?
+        pairs(rt, &scene, root, ACCESSES / 16)
     };
-    scene.close(root)
+    match root {
+        Ok(root) => scene.close(root),
+        Err(fault) => {
+            drop(scene);
+            Err(fault)
+        }
+    }
 }
 
 fn closed<R: Threads + Wait + Sync>(
@@ -171,23 +200,36 @@ fn last_value(entries: &[Entry]) -> i64 {
     entries.last().map_or(0, |entry| entry.value)
 }
 
+/// Whether each access and each fork drew a stamp of its own.
+fn have_stamps(alloc: Global, nodes: &[Node], threads: u32) -> Result<bool, OutOfMemory> {
+    let stamps = stamps(alloc, nodes)?;
+    let count = stamps.len();
+    Ok(count == 100_000 + threads as usize - 1 && are_all(stamps.as_slice()))
+}
+
+/// Whether what so many threads left is in the cells that they have for themselves, and all accesses of the one that they share.
+fn are_counted(closed: &Closed, threads: u32, own: i64) -> bool {
+    for (n, journal) in closed.journals.as_slice().iter().enumerate() {
+        let entries = journal.as_slice();
+        if n < threads as usize && last_value(entries) != own {
+            return false;
+        }
+        if n == SHARED as usize && entries.len() != 50_000 {
+            return false;
+        }
+    }
+    true
+}
+
 #[test]
 fn threads_count(rt: HostRuntime) -> Result<(), Fail> {
     for (threads, own) in [(2u32, 12_500), (4, 6_250)] {
         let closed = closed(&rt, rt.alloc(), threads)?;
-        let stamps = stamps(rt.alloc(), closed.tree.nodes())?;
-        // each access and each fork drew one
-        assert_eq!(rt; stamps.len(), 100_000 + threads as usize - 1);
-        assert!(rt; are_all(stamps.as_slice()));
-        for (n, journal) in closed.journals.as_slice().iter().enumerate() {
-            let entries = journal.as_slice();
-            if n < threads as usize {
-                assert_eq!(rt; last_value(entries), own);
-            }
-            if n == SHARED as usize {
-                assert_eq!(rt; entries.len(), 50_000);
-            }
-        }
+        let have_stamps = have_stamps(rt.alloc(), closed.tree.nodes(), threads);
+        let are_counted = are_counted(&closed, threads, own);
+        drop(closed);
+        assert!(rt; have_stamps?);
+        assert!(rt; are_counted);
     }
     Ok(())
 }

@@ -8,10 +8,10 @@ pub begin-requires-clause-of : goal.begin-requires-clause-of
 begin-requires-clause-of g c = let (name, columns, budget, cells) = c.self.invariant in here c.self.inside.board _ _ c.led.inside.token name columns c.led.invariant.0
 
 pub begin-requires-clause-goes : goal.begin-requires-clause-goes
-begin-requires-clause-goes g c = let (name, columns, budget, cells) = c.self.invariant in subst (λ (n : ℕ). GoesFree n (token_of c.led.inside.token)) (sym budget) (c.goes.ensures c.in_ok-met.ensures)
+begin-requires-clause-goes g c = let (name, columns, budget, cells) = c.self.invariant in subst (λ (n : ℕ). GoesFree n (token_of c.led.inside.token)) (sym budget) (c.goes.ensures c.if-not-goes.false)
 
 pub strand_of-requires-clause-at : goal.strand_of-requires-clause-at
 strand_of-requires-clause-at g c κs within = let (name, columns, budget, cells) = c.self.invariant in there c.self.inside.board _ _ c.begin.new.token name columns c.begin.ensures.of
 
 pub strand_of-requires-clause-led : goal.strand_of-requires-clause-led
-strand_of-requires-clause-led g c κs within = let (stamp, later, is) = c.in_ok-begin.ensures.ok in led_is _ _ _ _ _ _ _ _ is c.led.invariant.1
+strand_of-requires-clause-led g c κs within = let (stamp, later, is) = c.in-Ok.ensures.ok in led_is _ _ _ _ _ _ _ _ is c.led.invariant.1

@@ -8,7 +8,7 @@ pub commit-requires-clause-of : goal.commit-requires-clause-of
 commit-requires-clause-of g c = let (name, columns, budget, cells) = c.self.invariant in here c.self.inside.board _ _ c.led.inside.token name columns c.led.invariant.0
 
 pub commit-requires-clause-goes : goal.commit-requires-clause-goes
-commit-requires-clause-goes g c = let (name, columns, budget, cells) = c.self.invariant in subst (λ (n : ℕ). GoesFree n (token_of c.led.inside.token)) (sym budget) (c.goes.ensures c.in_ok-met.ensures)
+commit-requires-clause-goes g c = let (name, columns, budget, cells) = c.self.invariant in subst (λ (n : ℕ). GoesFree n (token_of c.led.inside.token)) (sym budget) (c.goes.ensures c.if-not-goes.false)
 
 pub strand_of-requires-clause-at : goal.strand_of-requires-clause-at
 strand_of-requires-clause-at g c κs within = let (name, columns, budget, cells) = c.self.invariant in there c.self.inside.board _ _ c.commit.new.token name columns c.commit.ensures.of

@@ -7,10 +7,10 @@ strand_of-requires-clause-at g c κs within = let (name, columns, budget, cells)
 
 pub join-token-requires-clause-fork : goal.join-token-requires-clause-fork
 join-token-requires-clause-fork g c =
-    let e = c.in_ok-outer.ensures in
+    let e = c.in-Ok.ensures in
     joins_fork (token_of c.left.inside.token) (token_of c.right.inside.token) _ _ _ _ _ _ _ _ _ _ _ _ _ _ _ c.left.invariant.1 c.right.invariant.1 e.fork.0 e.fork.1 e.strand
 
 pub strand_of-requires-clause-led : goal.strand_of-requires-clause-led
 strand_of-requires-clause-led g c κs within =
-    let e = c.in_ok-outer.ensures in
+    let e = c.in-Ok.ensures in
     joins_led (token_of c.left.inside.token) (token_of c.right.inside.token) _ _ _ _ _ _ _ _ _ _ _ _ _ _ _ c.left.invariant.1 c.right.invariant.1 e.fork.0 e.fork.1 e.strand _ _ _ _ c.join-token.ensures.token e.kept.0 e.kept.1 e.phase
