@@ -207,7 +207,7 @@ fn have_stamps(alloc: Global, nodes: &[Node], threads: u32) -> Result<bool, OutO
     Ok(count == 100_000 + threads as usize - 1 && are_all(stamps.as_slice()))
 }
 
-/// Whether what so many threads left is in the cells that they have for themselves, and all accesses of the one that they share.
+/// Whether the cells of the threads have what each of them left, and the shared cell has all accesses.
 fn are_counted(closed: &Closed, threads: u32, own: i64) -> bool {
     for (n, journal) in closed.journals.as_slice().iter().enumerate() {
         let entries = journal.as_slice();
