@@ -97,7 +97,7 @@ module _ (c : Driver) (w x : ℕ) (z : Seen) (may : MayDie c w x z) where
 
   -- and else it finishes dead
   pub may_finish_dead : in_block c.core.machine x ≡ false → MayFinish c w x true z
-  may_finish_dead out = record { may = may.may; runs = may.runs; die = may.dying; over = sym same_block ∙ out }
+  may_finish_dead out = record { may = may.may; runs = may.runs; dies = may.dying; over = sym same_block ∙ out }
 
   dies_as : (b : Bool) → in_block c.core.machine x ≡ b → (d : Driver)
       → Comes d z (cond b (with_strand x (z.m.saved (place (tree z.m) x)) (does (event.Roll x) z.m)) (finish_strand (law_of z) w x true z.m)) → Comes d z (die (law_of z) w x z.m)
@@ -128,7 +128,7 @@ module _ (c : Driver) (w x : ℕ) (want : Want) (z : Seen) (may : MayAct c w x w
   may_finish over = record {
     may = may.may;
     runs = may.runs;
-    die = may.alive;
+    dies = may.alive;
     over = may.may.wants.over x (is_free_here z.m.core.machine.first z.m.core may.may.steady.core z.m.workers may.may.workers w x may.runs may.alive) (ap is_over may.wanted ∙ ap is_over is ∙ over);
   }
 
