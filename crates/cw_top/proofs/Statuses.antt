@@ -32,9 +32,21 @@ use Rattle.cw_top.specs.Runs.{HasSeveralWorkers, IsDoneAs, IsDoneBy, IsOfMoves, 
 use Rattle.cw_top.specs.Taken.{Accepts, IsRefusedFor, IsRefusedIn}
 use Rattle.cw_top.specs.Written.{Writes, WritesEndOfOneMemory, end_of_one_memory, end_text_in, telling_of, load_text_of, report_if, summary_text, text_in, text_of_command, text_owed}
 
--- words that are no command come to status 2
-of_none : (kept : Option Record) (status : ℕ) (n : Note) → n ≡ note.Usage → IsStatus kept status n → status ≡ 2
-of_none kept status n is h = (subst (λ m. IsStatus kept status m) is h).1
+-- words that are no command come to status 2, or memory runs out
+of_none : (kept : Option Record) (status : ℕ) (n : Note) → (n ≡ note.Usage) ⊎ (n ≡ note.Memory) → IsStatus kept status n → (status ≡ 2) ⊎ (status ≡ 1)
+of_none kept status n (inl is) h = inl ((subst (λ m. IsStatus kept status m) is h).1)
+of_none kept status n (inr is) h = inr ((subst (λ m. IsStatus kept status m) is h).1)
+
+not_low : (status : ℕ) → (status ≡ 2) ⊎ (status ≡ 1) → (status ≢ 3) × (status ≢ 4) × (status ≢ 5)
+not_low status (inl two) = (λ h. cc, λ h. cc, λ h. cc)
+not_low status (inr one) = (λ h. cc, λ h. cc, λ h. cc)
+
+-- running out of memory needs no cause
+pub memory_cause : (command : Option Command) (n : Note) (left : Option (List ℕ)) (r w : Type 0) → n ≡ note.Memory → HasCause command n left r w
+memory_cause None n left r w is = inr is
+memory_cause (Some (Run ws ls wk p)) n left r w is = subst (λ m. IsCauseOfRun 1 ws m left r w) (sym is) tt
+memory_cause (Some (Sim ws ls wk sc p)) n left r w is = subst (λ m. IsCauseOfRun 2 ws m left r w) (sym is) tt
+memory_cause (Some (Load tr wk)) n left r w is = subst (λ m. IsCauseOfTelling m w) (sym is) tt
 
 no_end : (e : RecordEnd) (status : ℕ) → status ≡ status_of_end e → (status ≢ 2) × (status ≢ 3) × (status ≢ 4) × (status ≢ 5)
 no_end (Finished m o) status is = (λ h. cc, λ h. cc, λ h. cc, λ h. cc)
@@ -94,7 +106,7 @@ read_fault_of l words kept status (note.Text f) left r w (none, is) cause h = cc
 read_fault_of l words kept status (note.Name f) left r w (none, is) cause h = cc
 
 pub read_fault : (command : Option Command) (kept : Option Record) (status : ℕ) (n : Note) (left : Option (List ℕ)) (r w : Type 0) → IsStatus kept status n → HasCause command n left r w → status ≡ 3 → r
-read_fault None kept status n left r w is cause h = let two = of_none kept status n cause is in cc
+read_fault None kept status n left r w is cause h = absurd ((not_low status (of_none kept status n cause is)).0 h)
 read_fault (Some (Run ws ls wk p)) kept status n left r w is cause h = read_fault_of 1 ws kept status n left r w is cause h
 read_fault (Some (Sim ws ls wk sc p)) kept status n left r w is cause h = read_fault_of 2 ws kept status n left r w is cause h
 read_fault (Some (Load tr wk)) kept status n left r w is cause h = absurd ((load_causes kept status n w is cause).1 h)
@@ -109,7 +121,7 @@ write_fault_of l words kept status (note.Text f) left r w (none, is) cause h = c
 write_fault_of l words kept status (note.Name f) left r w (none, is) cause h = cc
 
 pub write_fault : (command : Option Command) (kept : Option Record) (status : ℕ) (n : Note) (left : Option (List ℕ)) (r w : Type 0) → IsStatus kept status n → HasCause command n left r w → status ≡ 4 → w
-write_fault None kept status n left r w is cause h = let two = of_none kept status n cause is in cc
+write_fault None kept status n left r w is cause h = absurd ((not_low status (of_none kept status n cause is)).1 h)
 write_fault (Some (Run ws ls wk p)) kept status n left r w is cause h = write_fault_of 1 ws kept status n left r w is cause h
 write_fault (Some (Sim ws ls wk sc p)) kept status n left r w is cause h = write_fault_of 2 ws kept status n left r w is cause h
 write_fault (Some (Load tr wk)) kept status n left r w is cause h = load_writes kept status n w is cause h
@@ -124,7 +136,7 @@ refused_of l words kept status (note.Text f) left r w is cause h = cause
 refused_of l words kept status (note.Name f) left r w is cause h = cause
 
 pub refused : (command : Option Command) (kept : Option Record) (status : ℕ) (n : Note) (left : Option (List ℕ)) (r w : Type 0) → IsStatus kept status n → HasCause command n left r w → status ≡ 5 → IsRefusedFor command n left
-refused None kept status n left r w is cause h = let two = of_none kept status n cause is in cc
+refused None kept status n left r w is cause h = absurd ((not_low status (of_none kept status n cause is)).2 h)
 refused (Some (Run ws ls wk p)) kept status n left r w is cause h = refused_of 1 ws kept status n left r w is cause h
 refused (Some (Sim ws ls wk sc p)) kept status n left r w is cause h = refused_of 2 ws kept status n left r w is cause h
 refused (Some (Load tr wk)) kept status n left r w is cause h = absurd ((load_causes kept status n w is cause).2 h)
@@ -188,6 +200,11 @@ may_want : (co : Command) (status : ℕ) → status ≡ 1 → MayEndWith (Some c
 may_want (Run ws ls w p) status is = inr (inr (inr (inr is)))
 may_want (Load tr w) status is = inr (inr (inr (inr is)))
 may_want (Sim ws ls w s p) status is = inr (inr (inr (inr is)))
+
+-- running out of memory may end any command
+pub memory_ends : (command : Option Command) (status : ℕ) → status ≡ 1 → MayEndWith command status
+memory_ends None status is = inr is
+memory_ends (Some co) status is = may_want co status is
 
 -- bytes that are not refused are refused for no reason
 not_refused : (l : ℕ) (left : Option (List ℕ)) (P : List ℕ → Type 0) (n : Note) → IsSomeAnd left (λ bytes. (refusal l bytes ≡ None) × P bytes) → IsRefusedIn l n left → ⊥

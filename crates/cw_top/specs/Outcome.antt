@@ -57,7 +57,7 @@ IsCauseOfTelling n write_failed = ⊥
 
 -- why a command ends with this note
 abbrev pub HasCause : Option Command → Note → (left : Option (List ℕ)) (read_failed write_failed : Type 0) → Type 0
-HasCause None n left read_failed write_failed = n ≡ note.Usage
+HasCause None n left read_failed write_failed = (n ≡ note.Usage) ⊎ (n ≡ note.Memory)
 HasCause (Some (Load transfers workers)) n left read_failed write_failed = IsCauseOfTelling n write_failed
 HasCause (Some c) n left read_failed write_failed = IsCauseOfRun (newest_language c) (words_of c) n left read_failed write_failed
 
@@ -82,8 +82,7 @@ FailsToRead (Some c) read_failed = read_failed
 
 -- the statuses for words of no use, if no read fails
 abbrev pub MayBeMisusedWith : Option Command → ℕ → Type 0
-MayBeMisusedWith None status = status ≡ 2
-MayBeMisusedWith (Some c) status = (status ≡ 2) ⊎ (status ≡ 1)
+MayBeMisusedWith command status = (status ≡ 2) ⊎ (status ≡ 1)
 
 -- The source's bytes are known, and the command's source is refused for this reason.
 abbrev pub IsSurelyRefused : Option Command → (left : Option (List ℕ)) → Note → Type 0
@@ -102,7 +101,7 @@ MayEndOnThreads workers status = (status ≡ 0) ⊎ (status ≡ 6) ⊎ ((status 
 -- The statuses that a command may have if it accepts the source and neither a read nor a write fails. Status 7 needs more than one
 -- worker, and status 8 more than one thread.
 abbrev pub MayEndWith : Option Command → ℕ → Type 0
-MayEndWith None status = status ≡ 2
+MayEndWith None status = (status ≡ 2) ⊎ (status ≡ 1)
 MayEndWith (Some (Run words limits workers report)) status = MayEndOnThreads workers status
 MayEndWith (Some (Load transfers workers)) status = MayEndOnThreads workers status
 MayEndWith (Some (Sim words limits workers schedule report)) status = (status ≡ 0) ⊎ (status ≡ 6) ⊎ ((status ≡ 7) × (1 < workers)) ⊎ (status ≡ 9) ⊎ (status ≡ 1)

@@ -112,8 +112,8 @@ fn answer<R: Threads + Wait + Sync, S: Source, K: Sink, G: Gate>(
 /// these threads calls the gate before it looks for a task of another one, and before each try of a begin, an access or a commit.
 ///
 /// The statuses are those of `Reply`. At most 1,048,577 bytes are read, one more than a text may have, and never more are asked
-/// for. Errors are looked for in this order: words, read, text, names, number of words, run, write; memory may run out anywhere
-/// after the command line.
+/// for. Errors are looked for in this order: words, read, text, names, number of words, run, write; memory may run out
+/// anywhere.
 pub fn cwstm<R: Threads + Wait + Sync, S: Source, K: Sink, G: Gate>(
     rt: &R,
     alloc: Global,

@@ -1,5 +1,11 @@
-mod FirstOption
 mod Numbers
 mod Parts
-mod Passes
-mod Commands
+mod Walks
+mod Rows
+mod Leaf
+mod Fits
+mod Whole
+mod Odd
+mod Looks
+mod Matches
+mod Integers

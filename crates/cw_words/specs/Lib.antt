@@ -1,5 +1,6 @@
 pub mod Options
 pub mod Words
-pub mod Given
 pub mod Reading
+pub mod Shapes
+pub mod Asked
 pub mod Worked

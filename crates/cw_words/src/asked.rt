@@ -1,14 +1,13 @@
-ghost use Rattle.std.specs.Prelude.{◌≡◌, ◌<◌, ◌≤◌, ℕ, IfOk, IfSome, IsOkAnd, None, map, option_map, string_bytes};
-ghost use Rattle.std.specs.List.{list_any};
-ghost use Rattle.std.specs.Str.{bytes_eq};
+ghost use Rattle.std.specs.Prelude.{◌≡◌, ◌<◌, ◌≤◌, ℕ, IfOk, IfSome, IsOkAnd, None, map, option_map};
+ghost use Rattle.clap.specs.Words.{found_of};
 ghost use Rattle.cw_io.specs.declared.schedule.Schedule.TheVariants.{List as Listed};
-ghost use Rattle.cw_words.specs.Given.{Reads};
-ghost use Rattle.cw_words.specs.Options.{given};
-ghost use Rattle.cw_words.specs.Reading.{integers_in, known_in, limits_in, number_asked, sole_in, report_asked, schedule_asked, option_text, transfers_asked, value_in};
+ghost use Rattle.cw_words.specs.Asked.{limits_at, report_at, schedule_at, transfers_at, value_in, words_in};
+ghost use Rattle.cw_words.specs.Options.{integers_of, number_in, sole_word};
+ghost use Rattle.cw_words.specs.Reading.{Reads};
 ghost use Rattle.cw_words.specs.Words.{default_limits, schedule_in as schedule_by, workers_option};
 
-use crate::given::{Next, next_of, words_behind};
 use crate::options::{Kept, integer_of, list_below, number_within, with_one};
+use clap::ArgMatches;
 use cw_base::{OutOfMemory, Seq};
 use cw_code::Limits;
 use cw_io::Schedule;
@@ -20,70 +19,21 @@ const MOST_LISTED: usize = 20_000;
 // The most transfers that a load has.
 const MOST_TRANSFERS: u64 = 20_000;
 
-// Whether `name` is one of `names`.
-fn is_among(name: &str, names: &[&str]) -> bool
-    ensures { result ≡ list_any (λ k. bytes_eq k name.now) (map (λ n. n.now) names.now) }
+// Returns the value given to the option `name`, if one is given.
+fn value_of<'a>(found: &ArgMatches<'a>, name: &str) -> Option<&'a str>
+    ensures { option_map (λ v. v.now) result ≡ value_in (found_of found.now) name.now }
 {
-    for known in names {
-        if *known == name {
-            return true;
-        }
-    }
-    false
-}
-
-/// Whether the words can be read, and each option that they give has one of `names`.
-pub fn are_known(words: &[String], names: &[&str]) -> bool
-    ensures { result ≡ known_in (map (λ n. n.now) names.now) (given (map string_bytes words.now)) }
-{
-    let mut rest = words_behind(words);
-    'words: loop {
-        match next_of(rest) {
-            Next::Word(_, behind) => rest = behind,
-            Next::Setting(name, _, behind) => {
-                if !is_among(name, names) {
-                    return false;
-                }
-                rest = behind;
-            }
-            Next::End => return true,
-            Next::Bad => return false,
-        }
-    }
-}
-
-// Returns the value given to the option `name`, if one is given. It may not be given twice.
-fn value_of<'a>(words: &'a [String], name: &str) -> Option<Option<&'a str>>
-    ensures { option_text result ≡ value_in name.now (given (map string_bytes words.now)) }
-{
-    let mut found = None;
-    let mut rest = words_behind(words);
-    'words: loop {
-        match next_of(rest) {
-            Next::Word(_, behind) => rest = behind,
-            Next::Setting(other, value, behind) => {
-                if other == name {
-                    if found.is_some() {
-                        return None;
-                    }
-                    found = Some(value);
-                }
-                rest = behind;
-            }
-            Next::End => return Some(found),
-            Next::Bad => return None,
-        }
-    }
+    found.get_str(name)
 }
 
 // Returns the number within these bounds given to the option `name`, or `default` if it is not given.
-fn number_of(words: &[String], name: &str, least: u64, most: u64, default: u64) -> Option<u64>
+fn number_of(found: &ArgMatches<'_>, name: &str, least: u64, most: u64, default: u64) -> Option<u64>
     requires least { least ≤ default }
     requires most { default ≤ most }
-    ensures exact { result ≡ number_asked (record { name = name.now; least = least; most = most; default = default }) (given (map string_bytes words.now)) }
+    ensures exact { result ≡ number_in (record { name = name.now; least = least; most = most; default = default }) (value_in (found_of found.now) name.now) }
     ensures within { IfSome result (λ n. (least ≤ n) × (n ≤ most)) }
 {
-    match value_of(words, name)? {
+    match value_of(found, name) {
         Some(value) => number_within(value, least, most),
         None => Some(default),
     }
@@ -103,14 +53,14 @@ pub fn default_limits() -> Limits
 }
 
 /// Returns the limits that options give.
-pub fn limits_of(words: &[String]) -> Option<Limits>
-    ensures { result ≡ limits_in (given (map string_bytes words.now)) }
+pub fn limits_of(found: &ArgMatches<'_>) -> Option<Limits>
+    ensures { result ≡ limits_at (value_in (found_of found.now)) }
 {
-    let fuel = number_of(words, "fuel", 1, 1_000_000_000, 1_000_000)?;
-    let size = number_of(words, "size", 1, 10_000_000, 1_000_000)?;
-    let aborts = number_of(words, "aborts", 1, 1_000_000_000, 100_000)?;
-    let strands = number_of(words, "strands", 1, 1_000_000, 262_144)?;
-    let moves = number_of(words, "moves", 1, 1_000_000_000, 10_000_000)?;
+    let fuel = number_of(found, "fuel", 1, 1_000_000_000, 1_000_000)?;
+    let size = number_of(found, "size", 1, 10_000_000, 1_000_000)?;
+    let aborts = number_of(found, "aborts", 1, 1_000_000_000, 100_000)?;
+    let strands = number_of(found, "strands", 1, 1_000_000, 262_144)?;
+    let moves = number_of(found, "moves", 1, 1_000_000_000, 10_000_000)?;
     Some(Limits {
         fuel,
         size: size as u32,
@@ -121,10 +71,10 @@ pub fn limits_of(words: &[String]) -> Option<Limits>
 }
 
 /// Whether options ask for a report.
-pub fn report_of(words: &[String]) -> Option<bool>
-    ensures { result ≡ report_asked (given (map string_bytes words.now)) }
+pub fn report_of(found: &ArgMatches<'_>) -> Option<bool>
+    ensures { result ≡ report_at (value_in (found_of found.now)) }
 {
-    match value_of(words, "report")? {
+    match value_of(found, "report") {
         Some(value) => {
             number_within(value, 1, 1)?;
             Some(true)
@@ -134,11 +84,11 @@ pub fn report_of(words: &[String]) -> Option<bool>
 }
 
 /// Returns the number of workers that options give.
-pub fn workers_of(words: &[String]) -> Option<u32>
+pub fn workers_of(found: &ArgMatches<'_>) -> Option<u32>
     ensures some { IfSome result (λ n. 0 < n) }
-    ensures exact { result ≡ number_asked workers_option (given (map string_bytes words.now)) }
+    ensures exact { result ≡ number_in workers_option (value_in (found_of found.now) workers_option.name) }
 {
-    Some(number_of(words, "workers", 1, 64, 4)? as u32)
+    Some(number_of(found, "workers", 1, 64, 4)? as u32)
 }
 
 fn listed(kept: Kept<u32>) -> Result<Schedule, OutOfMemory>
@@ -160,14 +110,14 @@ fn unlisted(alloc: Global, seed: Option<&str>) -> Option<Result<Schedule, OutOfM
 /// Returns the schedule for `workers` workers that options give: a list or a seed, and not both.
 pub fn schedule_of(
     alloc: Global,
-    words: &[String],
+    found: &ArgMatches<'_>,
     workers: u32,
 ) -> Option<Result<Schedule, OutOfMemory>>
     requires { 0 < workers }
-    ensures { Reads (schedule_asked workers (given (map string_bytes words.now))) result }
+    ensures { Reads (schedule_at workers (value_in (found_of found.now))) result }
 {
-    let list = value_of(words, "schedule")?;
-    let seed = value_of(words, "seed")?;
+    let list = value_of(found, "schedule");
+    let seed = value_of(found, "seed");
     let Some(text) = list else {
         return unlisted(alloc, seed);
     };
@@ -178,51 +128,43 @@ pub fn schedule_of(
     Some(listed(kept))
 }
 
-/// Returns the integers that the words belonging to no option spell.
-pub fn integers_of(alloc: Global, words: &[String]) -> Option<Kept<i64>>
-    ensures { Reads (integers_in (given (map string_bytes words.now))) result }
+// Returns the integers that words spell.
+fn integers_in(alloc: Global, words: &[&str]) -> Option<Kept<i64>>
+    ensures { Reads (integers_of (map (λ w. w.now) words.now)) result }
 {
     let mut kept = Ok(Seq::new(alloc));
-    let mut rest = words_behind(words);
-    'words: loop {
-        match next_of(rest) {
-            Next::Word(word, behind) => {
-                kept = with_one(kept, integer_of(word)?);
-                rest = behind;
-            }
-            Next::Setting(_, _, behind) => rest = behind,
-            Next::End => return Some(kept),
-            Next::Bad => return None,
-        }
+    for word in words {
+        kept = with_one(kept, integer_of(*word)?);
+    }
+    Some(kept)
+}
+
+/// Returns the integers that the words belonging to no option spell.
+pub fn integers_of(alloc: Global, found: &ArgMatches<'_>) -> Option<Kept<i64>>
+    ensures { Reads (integers_of (words_in (found_of found.now))) result }
+{
+    match found.get_strs("words") {
+        Some(words) => integers_in(alloc, words),
+        None => Some(Ok(Seq::new(alloc))),
     }
 }
 
-// Returns the one word that belongs to no option, if there is exactly one.
-fn sole_word<'a>(words: &'a [String]) -> Option<&'a str>
-    ensures { option_map (λ w. w.now) result ≡ sole_in (given (map string_bytes words.now)) }
+// Returns the one word, if there is exactly one.
+fn sole_of<'a>(words: &[&'a str]) -> Option<&'a str>
+    ensures { option_map (λ w. w.now) result ≡ sole_word (map (λ w. w.now) words.now) }
 {
-    let mut sole = None;
-    let mut rest = words_behind(words);
-    'words: loop {
-        match next_of(rest) {
-            Next::Word(word, behind) => {
-                if sole.is_some() {
-                    return None;
-                }
-                sole = Some(word);
-                rest = behind;
-            }
-            Next::Setting(_, _, behind) => rest = behind,
-            Next::End => return sole,
-            Next::Bad => return None,
-        }
+    if let [word] = words {
+        Some(*word)
+    } else {
+        None
     }
 }
 
 /// Returns the number of transfers: what the one word that belongs to no option spells.
-pub fn transfers_of(words: &[String]) -> Option<u32>
-    ensures { result ≡ transfers_asked (given (map string_bytes words.now)) }
+pub fn transfers_of(found: &ArgMatches<'_>) -> Option<u32>
+    ensures { result ≡ transfers_at (words_in (found_of found.now)) }
 {
-    let word = sole_word(words)?;
+    let words = found.get_strs("words")?;
+    let word = sole_of(words)?;
     Some(number_within(word, 1, MOST_TRANSFERS)? as u32)
 }

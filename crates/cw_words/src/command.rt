@@ -1,10 +1,14 @@
-ghost use Rattle.std.specs.Prelude.{◌≡◌, IfOk, IsSome, OnErr, length, map, option_and_then, string_bytes};
-ghost use Rattle.cw_words.specs.Options.{given};
-ghost use Rattle.cw_words.specs.Words.{command_of, load_given, run_given, sim_given, words_of};
+ghost use Rattle.std.specs.Prelude.{◌≡◌, IfOk, false, length, map, string_bytes, true};
+ghost use Rattle.std.specs.List.{list_any};
+ghost use Rattle.clap.specs.Words.{found_of};
+ghost use Rattle.cw_words.specs.Asked.{is_dash, load_asked, run_at, sim_at, value_in, words_in};
+ghost use Rattle.cw_words.specs.Shapes.{has_no_odd};
+ghost use Rattle.cw_words.specs.Words.{command_of, words_of};
 
-use crate::asked::{
-    are_known, integers_of, limits_of, report_of, schedule_of, transfers_of, workers_of,
-};
+use crate::asked::{integers_of, limits_of, report_of, schedule_of, transfers_of, workers_of};
+use crate::line::parsed;
+use clap::ArgMatches;
+use clap::error::ErrorKind;
 use cw_base::{OutOfMemory, Seq};
 use cw_code::Limits;
 use cw_io::Schedule;
@@ -48,25 +52,20 @@ impl Command {
     }
 }
 
-// Returns the run that the words behind `run` ask for.
-fn run_with(alloc: Global, words: &[String]) -> Result<Option<Command>, OutOfMemory>
-    ensures exact { IfOk result (λ c. c ≡ option_and_then run_given (given (map string_bytes words.now))) }
-    ensures memory { OnErr result (IsSome (option_and_then run_given (given (map string_bytes words.now)))) }
+// Returns the run that options and words ask for.
+fn run_with(alloc: Global, found: &ArgMatches<'_>) -> Result<Option<Command>, OutOfMemory>
+    ensures { IfOk result (λ c. c ≡ run_at (value_in (found_of found.now)) (words_in (found_of found.now))) }
 {
-    let names = ["fuel", "size", "aborts", "strands", "workers", "report"];
-    if !are_known(words, &names) {
-        return Ok(None);
-    }
-    let Some(limits) = limits_of(words) else {
+    let Some(limits) = limits_of(found) else {
         return Ok(None);
     };
-    let Some(report) = report_of(words) else {
+    let Some(report) = report_of(found) else {
         return Ok(None);
     };
-    let Some(workers) = workers_of(words) else {
+    let Some(workers) = workers_of(found) else {
         return Ok(None);
     };
-    let Some(kept) = integers_of(alloc, words) else {
+    let Some(kept) = integers_of(alloc, found) else {
         return Ok(None);
     };
     Ok(Some(Command::Run {
@@ -77,30 +76,23 @@ fn run_with(alloc: Global, words: &[String]) -> Result<Option<Command>, OutOfMem
     }))
 }
 
-// Returns the simulation that the words behind `sim` ask for.
-fn sim_with(alloc: Global, words: &[String]) -> Result<Option<Command>, OutOfMemory>
-    ensures exact { IfOk result (λ c. c ≡ option_and_then sim_given (given (map string_bytes words.now))) }
-    ensures memory { OnErr result (IsSome (option_and_then sim_given (given (map string_bytes words.now)))) }
+// Returns the simulation that options and words ask for.
+fn sim_with(alloc: Global, found: &ArgMatches<'_>) -> Result<Option<Command>, OutOfMemory>
+    ensures { IfOk result (λ c. c ≡ sim_at (value_in (found_of found.now)) (words_in (found_of found.now))) }
 {
-    let names = [
-        "fuel", "size", "aborts", "strands", "moves", "workers", "schedule", "seed", "report",
-    ];
-    if !are_known(words, &names) {
-        return Ok(None);
-    }
-    let Some(limits) = limits_of(words) else {
+    let Some(limits) = limits_of(found) else {
         return Ok(None);
     };
-    let Some(report) = report_of(words) else {
+    let Some(report) = report_of(found) else {
         return Ok(None);
     };
-    let Some(workers) = workers_of(words) else {
+    let Some(workers) = workers_of(found) else {
         return Ok(None);
     };
-    let Some(schedule) = schedule_of(alloc, words, workers) else {
+    let Some(schedule) = schedule_of(alloc, found, workers) else {
         return Ok(None);
     };
-    let Some(kept) = integers_of(alloc, words) else {
+    let Some(kept) = integers_of(alloc, found) else {
         return Ok(None);
     };
     Ok(Some(Command::Sim {
@@ -112,33 +104,53 @@ fn sim_with(alloc: Global, words: &[String]) -> Result<Option<Command>, OutOfMem
     }))
 }
 
-// Returns the load that the words behind `load` ask for.
-fn load_with(words: &[String]) -> Option<Command>
-    ensures { result ≡ option_and_then load_given (given (map string_bytes words.now)) }
+// Returns the load that options and a word ask for.
+fn load_with(found: &ArgMatches<'_>) -> Option<Command>
+    ensures { result ≡ load_asked (value_in (found_of found.now)) (words_in (found_of found.now)) }
 {
-    if !are_known(words, &["workers"]) {
-        return None;
-    }
-    let workers = workers_of(words)?;
-    let transfers = transfers_of(words)?;
+    let workers = workers_of(found)?;
+    let transfers = transfers_of(found)?;
     Some(Command::Load { transfers, workers })
 }
 
-/// Returns the command that the words behind the program's name are, if they are one. Returns out of memory only if they are one.
+// Whether one of the words is `-`. clap takes it as a value or a plain word.
+fn has_hyphen_alone(words: &[String]) -> bool
+    ensures dash { result ≡ list_any is_dash (map string_bytes words.now) }
+    ensures even { result ≡ false → has_no_odd (map string_bytes words.now) ≡ true }
+{
+    for word in words {
+        if word.as_str() == "-" {
+            return true;
+        }
+    }
+    false
+}
+
+/// Returns the command that the words behind the program's name are, if they are one. Out of memory may be returned for any words.
 pub fn command_of(alloc: Global, words: &[String]) -> Result<Option<Command>, OutOfMemory>
     ensures exact { IfOk result (λ c. c ≡ command_of (map string_bytes words.now)) }
-    ensures memory { OnErr result (IsSome (command_of (map string_bytes words.now))) }
 {
-    let Some((name, words)) = words.split_first() else {
+    if has_hyphen_alone(words) {
+        return Ok(None);
+    }
+    let matches = match parsed(alloc, words) {
+        Ok(matches) => matches,
+        Err(error) => {
+            return match error.kind() {
+                ErrorKind::OutOfMemory => Err(OutOfMemory),
+                _ => Ok(None),
+            };
+        }
+    };
+    let Some((name, found)) = matches.subcommand() else {
         return Ok(None);
     };
-    let name = name.as_str();
     if name == "run" {
-        run_with(alloc, words)
+        run_with(alloc, found)
     } else if name == "sim" {
-        sim_with(alloc, words)
+        sim_with(alloc, found)
     } else if name == "load" {
-        Ok(load_with(words))
+        Ok(load_with(found))
     } else {
         Ok(None)
     }

@@ -1,7 +1,6 @@
-ghost use Rattle.std.specs.Prelude.{◌≡◌, ◌<◌, ◌≤◌, ◌≢◌, ◌∷◌, ◌++◌, [], codes, IfNone, IfOk, IfSome, IsOkAnd, IsTrue, None, length, map, option_map, string_bytes};
-ghost use Rattle.cw_words.specs.Given.{Reads};
-ghost use Rattle.cw_words.specs.Options.{given, has_hyphen, integer_of, list_below, number_within, parts_of, with_option};
-ghost use Rattle.cw_words.specs.Reading.{parts_behind};
+ghost use Rattle.std.specs.Prelude.{◌≡◌, ◌<◌, ◌≤◌, ◌∷◌, ◌++◌, [], IfOk, IfSome, IsOkAnd};
+ghost use Rattle.cw_words.specs.Options.{integer_of, list_below, number_within, parts_of};
+ghost use Rattle.cw_words.specs.Reading.{Reads, parts_behind};
 
 use cw_base::{OutOfMemory, Seq};
 use std::alloc::Global;
@@ -16,31 +15,6 @@ pub fn with_one<T: Drop>(kept: Kept<T>, item: T) -> Kept<T>
     let mut items = kept?;
     items.push(item)?;
     Ok(items)
-}
-
-/// Returns the option that `word` begins, with its value and the words behind both. The word `--` begins none.
-pub fn option_of<'a>(
-    word: &'a str,
-    behind: &'a [String],
-) -> Option<(&'a str, &'a str, &'a [String])>
-    ensures some { IfSome result (λ r. given (word.now ∷ map string_bytes behind.now)
-        ≡ option_map (with_option r.0.now r.1.now) (given (map string_bytes r.2.now))) }
-    ensures none { IfNone result (IsTrue (has_hyphen word.now) → word.now ≢ codes "--" → given (word.now ∷ map string_bytes behind.now) ≡ None) }
-    ensures fewer { IfSome result (λ r. length r.2.now ≤ length behind.now) }
-{
-    let text = word.strip_prefix("--")?;
-    if text.is_empty() {
-        return None;
-    }
-    if let Some((name, value)) = text.split_once('=') {
-        return Some((name, value, behind));
-    }
-    let (next, behind) = behind.split_first()?;
-    let value = next.as_str();
-    if value.starts_with("-") {
-        return None;
-    }
-    Some((text, value, behind))
 }
 
 /// Returns the number within these bounds that `value` spells.

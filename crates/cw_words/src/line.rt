@@ -1,0 +1,73 @@
+ghost use Rattle.std.specs.Prelude.{◌≡◌, ◌⊎◌, [], false, IfErr, IfOk, map, string_bytes};
+ghost use Rattle.clap.specs.Words.{app_of, fault_of, kind_of, rule_of, subcommand_of, subcommand_rows_of};
+ghost use Rattle.clap.specs.declared.builder.command.Command.TheViews.{out-Command as fields_of};
+ghost use Rattle.cw_words.specs.Shapes.{cli, fine, leaf_app, option_rule, word_rule};
+
+use clap::error::ErrorKind;
+use clap::{Arg, ArgAction, ArgMatches, Command, Error};
+use std::alloc::{AllocError, Global};
+
+// Returns an option whose value is a text.
+fn option<'a>(alloc: Global, name: &'a str) -> Arg<'a>
+    ensures rule { rule_of result ≡ option_rule name.entry.now }
+    ensures global { result.global ≡ false }
+{
+    Arg::new(alloc, name).long(name)
+}
+
+// Returns the argument that collects the words belonging to no option.
+fn plain_words<'a>(alloc: Global) -> Arg<'a>
+    ensures rule { rule_of result ≡ word_rule }
+    ensures global { result.global ≡ false }
+{
+    Arg::new(alloc, "words").action(ArgAction::Append)
+}
+
+// Returns a command that has these options, and words.
+fn command_with<'a>(
+    alloc: Global,
+    name: &'a str,
+    options: &'a [&'a str],
+) -> Result<Command<'a>, AllocError>
+    ensures app { IfOk result (λ r. app_of r ≡ leaf_app name.entry.now (map (λ n. n.now) options.entry.now)) }
+    ensures local { IfOk result (λ r. (fields_of r).has_globals ≡ false) }
+{
+    let mut command = Command::new(alloc, name).arg(plain_words(alloc))?;
+    for known in options {
+        command = command.arg(option(alloc, *known))?;
+    }
+    Ok(command)
+}
+
+static RUN_OPTIONS: [&str; 6] = ["fuel", "size", "aborts", "strands", "workers", "report"];
+
+static SIM_OPTIONS: [&str; 9] = [
+    "fuel", "size", "aborts", "strands", "moves", "workers", "schedule", "seed", "report",
+];
+
+static LOAD_OPTIONS: [&str; 1] = ["workers"];
+
+// Returns the command line: three commands, with neither help nor version.
+fn command_line<'a>(alloc: Global) -> Result<Command<'a>, AllocError>
+    ensures { IfOk result (λ r. app_of r ≡ cli) }
+{
+    let run = command_with(alloc, "run", RUN_OPTIONS.as_slice())?;
+    let sim = command_with(alloc, "sim", SIM_OPTIONS.as_slice())?;
+    let load = command_with(alloc, "load", LOAD_OPTIONS.as_slice())?;
+    Command::new(alloc, "cwstm")
+        .no_binary_name(true)
+        .disable_help_flag(true)
+        .disable_help_subcommand(true)
+        .subcommand(run)?
+        .subcommand(sim)?
+        .subcommand(load)
+}
+
+/// Parses the words as clap does. It takes `-` as a word or a value, so it needs words that do not have it.
+pub fn parsed<'a>(alloc: Global, words: &'a [String]) -> Result<ArgMatches<'a>, Error>
+    ensures ok { IfOk result (λ m. (fault_of cli (map string_bytes words.now) ≡ []) × (subcommand_rows_of m ≡ subcommand_of cli (map string_bytes words.now))) }
+    ensures err { IfErr result (λ e. (kind_of e ≡ ErrorKind.OutOfMemory) ⊎ (fine (fault_of cli (map string_bytes words.now)) ≡ false)) }
+{
+    let command = command_line(alloc)?;
+    command.try_get_matches_from(words)
+}
