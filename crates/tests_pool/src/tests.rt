@@ -38,13 +38,18 @@ fn program(alloc: Global, text: &str) -> Result<Program, Fail>
     ensures cancels { IfOk result (λ p. cancels p.code ≡ false) }
     ensures words { IfOk result (λ p. TakesWords p 0) }
 {
-    let program = compile(alloc, &read_program(alloc, text.as_bytes())?)?;
+    let tree = read_program(alloc, text.as_bytes())?;
+    let compiled = compile(alloc, &tree);
+    drop(tree);
+    let program = compiled?;
     if program.cancels() {
+        drop(program);
         return Err("a block is given up".into());
     }
     if takes_words(&program, 0) {
         Ok(program)
     } else {
+        drop(program);
         Err("main asks for words".into())
     }
 }

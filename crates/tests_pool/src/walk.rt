@@ -11,7 +11,7 @@ use cw_tree::{BlockState, Conflict, Halt, Kind, Node};
 use std::alloc::Global;
 
 /// What is wrong with a log.
-#[derive(Clone, Copy, Drop, PartialEq, Eq, Debug)]
+#[derive(Clone, Copy, Drop, Debug)]
 pub enum Why {
     Memory,
     /// The strand wants something else, or nothing more.
@@ -37,7 +37,7 @@ impl From<OutOfMemory> for Why {
 }
 
 /// Where a walk found something wrong: at `node` of the log with `column`.
-#[derive(Clone, Copy, Drop, PartialEq, Eq, Debug)]
+#[derive(Clone, Copy, Drop, Debug)]
 pub struct Wrong {
     pub why: Why,
     pub column: u32,
@@ -89,11 +89,18 @@ fn joined<'a>(left: Legs<'a>, right: Legs<'a>) -> Result<Legs<'a>, Why> {
             if are_over {
                 Ok(Legs::Goes(right.joins(left)?))
             } else {
+                drop(left);
                 Ok(Legs::Fell(right.falls()))
             }
         }
-        (Legs::Goes(_left), Legs::Fell(right)) => Ok(Legs::Fell(right)),
-        (Legs::Fell(_left), right) => Ok(Legs::Fell(right.fallen())),
+        (Legs::Goes(left), Legs::Fell(right)) => {
+            drop(left);
+            Ok(Legs::Fell(right))
+        }
+        (Legs::Fell(left), right) => {
+            drop(left);
+            Ok(Legs::Fell(right.fallen()))
+        }
     }
 }
 
@@ -150,6 +157,27 @@ fn are_asked(nodes: &[Node], conflicts: &[Conflict]) -> bool {
     true
 }
 
+/// Returns the strand, if it wants to read or write the cell of a refused access.
+fn tries<'a>(walker: Walker<'a>, cell: u32) -> Result<Walker<'a>, Why> {
+    if walker.is_at(cell) {
+        Ok(walker)
+    } else {
+        drop(walker);
+        Err(Why::Want)
+    }
+}
+
+/// Moves a strand behind a block that was committed.
+fn committed<'a>(legs: Legs<'a>) -> Result<Legs<'a>, Why> {
+    match legs {
+        Legs::Goes(walker) => Ok(Legs::Goes(walker.ends()?)),
+        Legs::Fell(fallen) => {
+            drop(fallen);
+            Err(Why::Off)
+        }
+    }
+}
+
 /// Adds `more` to a number.
 fn after(number: u32, more: u32) -> Result<u32, Why> {
     match number.checked_add(more) {
@@ -189,32 +217,48 @@ impl<'a> Walk<'a> {
         match nodes.get(self.next as usize) {
             Some(node) if node.parent == self.place => match legs {
                 Legs::Goes(walker) => self.enters(walker, node),
-                Legs::Fell(_) => Err(Why::Off),
+                Legs::Fell(fallen) => {
+                    drop(fallen);
+                    Err(Why::Off)
+                }
             },
             _ => self.leaves(legs),
         }
     }
 
     fn enters(&mut self, walker: Walker<'a>, node: &'a Node) -> Result<Legs<'a>, Why> {
+        let next = match after(self.next, 1) {
+            Ok(next) => next,
+            Err(why) => {
+                drop(walker);
+                return Err(why);
+            }
+        };
         let walker = match node.kind {
-            Kind::Strand => return Err(Why::Fork),
+            Kind::Strand => {
+                drop(walker);
+                return Err(Why::Fork);
+            }
             Kind::Fork => return self.forks(walker),
-            Kind::Block => {
-                let walker = walker.begins()?;
-                self.open.push(Open::Block { outer: self.place })?;
-                self.place = self.next;
-                walker
-            }
-            Kind::Tried { cell } => {
-                if !walker.is_at(cell) {
-                    return Err(Why::Want);
-                }
-                walker
-            }
+            Kind::Block => self.blocks(walker)?,
+            Kind::Tried { cell } => tries(walker, cell)?,
             _ => walker.acts(&node.kind)?,
         };
-        self.next = after(self.next, 1)?;
+        self.next = next;
         Ok(Legs::Goes(walker))
+    }
+
+    fn blocks(&mut self, walker: Walker<'a>) -> Result<Walker<'a>, Why> {
+        let walker = walker.begins()?;
+        match self.open.push(Open::Block { outer: self.place }) {
+            Ok(()) => {}
+            Err(_) => {
+                drop(walker);
+                return Err(Why::Memory);
+            }
+        }
+        self.place = self.next;
+        Ok(walker)
     }
 
     /// Whether the node `number` is a strand of this fork.
@@ -225,8 +269,8 @@ impl<'a> Walk<'a> {
         }
     }
 
-    fn forks(&mut self, walker: Walker<'a>) -> Result<Legs<'a>, Why> {
-        let (left, right) = walker.forks(self.alloc)?;
+    /// Goes to the left strand of a fork, and answers which the right one is, where that is in the same log.
+    fn branches(&mut self) -> Result<Option<u32>, Why> {
         let fork = self.next;
         let first = after(fork, 1)?;
         let second = after(fork, 2)?;
@@ -239,15 +283,34 @@ impl<'a> Walk<'a> {
             inline = Some(second);
             self.next = after(fork, 3)?;
         }
+        self.place = first;
+        Ok(inline)
+    }
+
+    fn forks(&mut self, walker: Walker<'a>) -> Result<Legs<'a>, Why> {
+        let (left, right) = walker.forks(self.alloc)?;
+        let fork = self.next;
         let outer = self.place;
-        self.open.push(Open::Left {
+        let inline = match self.branches() {
+            Ok(inline) => inline,
+            Err(why) => {
+                drop(left);
+                drop(right);
+                return Err(why);
+            }
+        };
+        match self.open.push(Open::Left {
             fork,
             outer,
             right,
             inline,
-        })?;
-        self.place = first;
-        Ok(Legs::Goes(left))
+        }) {
+            Ok(()) => Ok(Legs::Goes(left)),
+            Err(_) => {
+                drop(left);
+                Err(Why::Memory)
+            }
+        }
     }
 
     /// Leaves the strand's place, in which nothing more follows.
@@ -290,16 +353,30 @@ impl<'a> Walk<'a> {
 
     fn leaves_block(&mut self, legs: Legs<'a>, outer: u32) -> Result<Legs<'a>, Why> {
         let Some(node) = self.page.nodes.get(self.place as usize) else {
+            drop(legs);
             return Err(Why::Want);
         };
         let state = node.state;
         self.place = outer;
-        match (state, legs) {
-            (BlockState::Committed, Legs::Goes(walker)) => Ok(Legs::Goes(walker.ends()?)),
-            (BlockState::Committed, Legs::Fell(_)) => Err(Why::Off),
-            (BlockState::Aborted, legs) => Ok(Legs::Goes(legs.fallen().back()?)),
-            (BlockState::Pending, legs) => Ok(Legs::Fell(legs.fallen().leaves()?)),
+        match state {
+            BlockState::Committed => committed(legs),
+            BlockState::Aborted => Ok(Legs::Goes(legs.fallen().back()?)),
+            BlockState::Pending => Ok(Legs::Fell(legs.fallen().leaves()?)),
         }
+    }
+
+    /// Goes to the right strand of a fork. If that has a log of its own, returns where to go on behind it.
+    fn turned(&mut self, fork: u32, inline: Option<u32>) -> Result<Option<(Page<'a>, u32)>, Why> {
+        if let Some(strand) = inline {
+            self.place = strand;
+            return Ok(None);
+        }
+        let Some(log) = self.logs.next() else {
+            return Err(Why::Log);
+        };
+        let before = (self.page, self.next);
+        self.opens(log, fork)?;
+        Ok(Some(before))
     }
 
     /// Goes from the left strand of a fork to the right one.
@@ -311,26 +388,25 @@ impl<'a> Walk<'a> {
         right: Walker<'a>,
         inline: Option<u32>,
     ) -> Result<Legs<'a>, Why> {
-        let before = match inline {
-            Some(strand) => {
-                self.place = strand;
-                None
-            }
-            None => {
-                let Some(log) = self.logs.next() else {
-                    return Err(Why::Log);
-                };
-                let before = (self.page, self.next);
-                self.opens(log, fork)?;
-                Some(before)
+        let before = match self.turned(fork, inline) {
+            Ok(before) => before,
+            Err(why) => {
+                drop(left);
+                drop(right);
+                return Err(why);
             }
         };
-        self.open.push(Open::Right {
+        match self.open.push(Open::Right {
             outer,
             left,
             before,
-        })?;
-        Ok(Legs::Goes(right))
+        }) {
+            Ok(()) => Ok(Legs::Goes(right)),
+            Err(_) => {
+                drop(right);
+                Err(Why::Memory)
+            }
+        }
     }
 
     /// Goes on at the begin of the log of a fork's right strand.
@@ -362,6 +438,7 @@ impl<'a> Walk<'a> {
         let legs = joined(left, right)?;
         if let Some((page, next)) = before {
             if self.next as usize != self.page.nodes.len() {
+                drop(legs);
                 return Err(Why::More);
             }
             self.page = page;
@@ -375,6 +452,7 @@ impl<'a> Walk<'a> {
     fn ends(&mut self, legs: Legs<'a>) -> Result<Legs<'a>, Why> {
         self.looks(&legs);
         if self.next as usize != self.page.nodes.len() || self.logs.next().is_some() {
+            drop(legs);
             return Err(Why::More);
         }
         let ended = if self.stop.is_some() {
@@ -383,6 +461,7 @@ impl<'a> Walk<'a> {
             legs.is_over()
         };
         if !ended {
+            drop(legs);
             return Err(Why::End);
         }
         self.is_over = true;
@@ -394,10 +473,15 @@ impl<'a> Walk<'a> {
         for _ in 0..u64::MAX {
             legs = self.step(legs)?;
             if self.is_over {
-                return Ok(());
+                break;
             }
         }
-        Err(Why::Memory)
+        drop(legs);
+        if self.is_over {
+            Ok(())
+        } else {
+            Err(Why::Memory)
+        }
     }
 }
 
@@ -443,12 +527,11 @@ pub fn walked(
         Ok(walker) => walk.all(Legs::Goes(walker)),
         Err(why) => Err(why),
     };
+    let column = walk.page.column;
+    let node = walk.next;
+    drop(walk);
     match done {
         Ok(()) => Ok(()),
-        Err(why) => Err(Wrong {
-            why,
-            column: walk.page.column,
-            node: walk.next,
-        }),
+        Err(why) => Err(Wrong { why, column, node }),
     }
 }

@@ -107,6 +107,13 @@ fn given(want: Want, kind: &Kind) -> Option<Given>
     }
 }
 
+/// What is answered where a strand is walked no further.
+fn lost(body: Body, levels: Stack<u64>, why: Why) -> Why {
+    drop(body);
+    drop(levels);
+    why
+}
+
 impl<'a> Walker<'a> {
     /// Starts the strand of main.
     pub(crate) fn main(
@@ -149,10 +156,13 @@ impl<'a> Walker<'a> {
     pub(crate) fn acts(self, kind: &Kind) -> Result<Walker<'a>, Why> {
         let mut walker = self;
         let Some(given) = given(walker.body.want(), kind) else {
-            return Err(Why::Want);
+            return Err(lost(walker.body, walker.levels, Why::Want));
         };
         let program = walker.program;
-        walker.body.answer(given, program)?;
+        match walker.body.answer(given, program) {
+            Ok(()) => {}
+            Err(_) => return Err(lost(walker.body, walker.levels, Why::Memory)),
+        }
         Ok(walker)
     }
 
@@ -160,13 +170,22 @@ impl<'a> Walker<'a> {
     pub(crate) fn begins(self) -> Result<Walker<'a>, Why> {
         let mut walker = self;
         let Want::Begin = walker.body.want() else {
-            return Err(Why::Want);
+            return Err(lost(walker.body, walker.levels, Why::Want));
         };
-        let saved = walker.body.save()?;
+        let saved = match walker.body.save() {
+            Ok(saved) => saved,
+            Err(_) => return Err(lost(walker.body, walker.levels, Why::Memory)),
+        };
         let program = walker.program;
-        walker.body.begins(saved, program)?;
+        match walker.body.begins(saved, program) {
+            Ok(()) => {}
+            Err(_) => return Err(lost(walker.body, walker.levels, Why::Memory)),
+        }
         let level = walker.level;
-        walker.levels.push(level)?;
+        match walker.levels.push(level) {
+            Ok(()) => {}
+            Err(_) => return Err(lost(walker.body, walker.levels, Why::Memory)),
+        }
         Ok(walker)
     }
 
@@ -179,12 +198,15 @@ impl<'a> Walker<'a> {
             mut levels,
         } = self;
         let Want::End = body.want() else {
-            return Err(Why::Want);
+            return Err(lost(body, levels, Why::Want));
         };
         let Some(_) = levels.pop() else {
-            return Err(Why::Want);
+            return Err(lost(body, levels, Why::Want));
         };
-        body.ends(program)?;
+        match body.ends(program) {
+            Ok(()) => {}
+            Err(_) => return Err(lost(body, levels, Why::Memory)),
+        }
         Ok(Walker {
             program,
             body,
@@ -197,13 +219,16 @@ impl<'a> Walker<'a> {
     pub(crate) fn forks(self, alloc: Global) -> Result<(Walker<'a>, Walker<'a>), Why> {
         let mut right = self;
         let Want::Fork = right.body.want() else {
-            return Err(Why::Want);
+            return Err(lost(right.body, right.levels, Why::Want));
         };
         let Some(level) = right.level.checked_add(1) else {
-            return Err(Why::Memory);
+            return Err(lost(right.body, right.levels, Why::Memory));
         };
         let program = right.program;
-        let body = right.body.fork(alloc, program)?;
+        let body = match right.body.fork(alloc, program) {
+            Ok(body) => body,
+            Err(_) => return Err(lost(right.body, right.levels, Why::Memory)),
+        };
         right.level = level;
         let left = Walker {
             program,
@@ -217,15 +242,28 @@ impl<'a> Walker<'a> {
     /// Joins a fork: this right strand becomes the strand that forked.
     pub(crate) fn joins(self, left: Walker<'a>) -> Result<Walker<'a>, Why> {
         let mut right = self;
-        let Walker { body, .. } = left;
+        let Walker { body, levels, .. } = left;
+        drop(levels);
         if !right.is_over() {
-            return Err(Why::Want);
+            drop(body);
+            return Err(lost(right.body, right.levels, Why::Want));
         }
-        if !are_below(&right.levels, right.level)? {
-            return Err(Why::Want);
+        let below = match are_below(&right.levels, right.level) {
+            Ok(below) => below,
+            Err(why) => {
+                drop(body);
+                return Err(lost(right.body, right.levels, why));
+            }
+        };
+        if !below {
+            drop(body);
+            return Err(lost(right.body, right.levels, Why::Want));
         }
         let program = right.program;
-        right.body.join(body, program)?;
+        match right.body.join(body, program) {
+            Ok(()) => {}
+            Err(_) => return Err(lost(right.body, right.levels, Why::Memory)),
+        }
         right.level = right.level.saturating_sub(1);
         Ok(right)
     }
@@ -262,7 +300,7 @@ impl<'a> Fallen<'a> {
             mut levels,
         } = self;
         let Some(_) = levels.pop() else {
-            return Err(Why::Want);
+            return Err(lost(body, levels, Why::Want));
         };
         body.forget();
         Ok(Fallen {
@@ -282,13 +320,20 @@ impl<'a> Fallen<'a> {
             mut levels,
         } = self;
         let Some(level) = levels.pop() else {
-            return Err(Why::Want);
+            return Err(lost(body, levels, Why::Want));
         };
         let Some(above) = level.checked_add(1) else {
-            return Err(Why::Memory);
+            return Err(lost(body, levels, Why::Memory));
         };
-        if matches!(body.want(), Want::End) || !are_below(&levels, above)? {
-            return Err(Why::Want);
+        if matches!(body.want(), Want::End) {
+            return Err(lost(body, levels, Why::Want));
+        }
+        let below = match are_below(&levels, above) {
+            Ok(below) => below,
+            Err(why) => return Err(lost(body, levels, why)),
+        };
+        if !below {
+            return Err(lost(body, levels, Why::Want));
         }
         body.back();
         Ok(Walker {

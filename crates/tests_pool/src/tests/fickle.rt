@@ -83,10 +83,12 @@ fn worked<R: Threads + Wait + Sync>(
     requires words { TakesWords program.now 0 }
 {
     let memory = first_memory(alloc, program.cells.as_slice())?;
-    let cells = u32::try_from(memory.len())?;
+    let cells = u32::try_from(memory.len());
+    drop(memory);
+    let cells = cells?;
     let limits = trial.limits;
     let (board, root) = Fickle::new(alloc, cells, limits.aborts, trial.odds, seed)?;
-    Ok(work(
+    let token = work(
         rt,
         alloc,
         &board,
@@ -96,10 +98,34 @@ fn worked<R: Threads + Wait + Sync>(
         workers,
         limits,
         &OpenGate,
-    ))
+    );
+    drop(board);
+    Ok(token)
 }
 
-// Returns how a run ended, after checking that its logs are those that strands of its program make.
+// Returns how a run ended, given the token of its root, after checking that its logs are those that strands of its program make.
+fn end_of_walked(
+    alloc: Global,
+    program: &Program,
+    limits: Limits,
+    token: &StrandToken,
+) -> Result<Ending, Fail>
+    requires { TakesWords program.now 0 }
+{
+    let told = Told {
+        nodes: token.nodes.as_slice(),
+        conflicts: token.conflicts.as_slice(),
+        joined: &token.joined,
+        stop: token.stop,
+    };
+    walked(alloc, program, &[], limits, told)?;
+    if token.told && token.stop.is_none() {
+        return Err("told of a halt that no log has".into());
+    }
+    Ok(end_of(token))
+}
+
+// Returns how such a run ended.
 fn ended<R: Threads + Wait + Sync>(
     rt: &R,
     alloc: Global,
@@ -113,17 +139,31 @@ fn ended<R: Threads + Wait + Sync>(
     requires words { TakesWords program.now 0 }
 {
     let token = worked(rt, alloc, program, trial, workers, seed)?;
-    let told = Told {
-        nodes: token.nodes.as_slice(),
-        conflicts: token.conflicts.as_slice(),
-        joined: &token.joined,
-        stop: token.stop,
-    };
-    walked(alloc, program, &[], trial.limits, told)?;
-    if token.told && token.stop.is_none() {
-        return Err("told of a halt that no log has".into());
+    let end = end_of_walked(alloc, program, trial.limits, &token);
+    drop(token);
+    end
+}
+
+fn all_seeds<R: Threads + Wait + Sync>(
+    rt: &R,
+    alloc: Global,
+    program: &Program,
+    trial: Trial,
+    workers: u32,
+    seeds: u64,
+) -> Result<(), Fail>
+    requires compiled { IsCompiled program.now }
+    requires cancels { cancels program.now.code ≡ false }
+    requires words { TakesWords program.now 0 }
+{
+    let (one, other) = trial.ends;
+    for seed in 0..seeds {
+        let end = ended(rt, alloc, program, trial, workers, seed)?;
+        if end != one && end != other {
+            return Err((trial.text, workers, seed, end).into());
+        }
     }
-    Ok(end_of(&token))
+    Ok(())
 }
 
 fn runs<R: Threads + Wait + Sync>(
@@ -134,14 +174,9 @@ fn runs<R: Threads + Wait + Sync>(
     seeds: u64,
 ) -> Result<(), Fail> {
     let program = program(alloc, trial.text)?;
-    let (one, other) = trial.ends;
-    for seed in 0..seeds {
-        let end = ended(rt, alloc, &program, trial, workers, seed)?;
-        if end != one && end != other {
-            return Err((trial.text, workers, seed, end).into());
-        }
-    }
-    Ok(())
+    let done = all_seeds(rt, alloc, &program, trial, workers, seeds);
+    drop(program);
+    done
 }
 
 const WHOLE: (Ending, Ending) = (Ending::Whole, Ending::Whole);

@@ -16,5 +16,5 @@ invariant_of-result c =
     let x = c.args.self in
     let job = bare_job x.program.now in
     let h : Stands Goes x.program.now x.level (c.in-Some.field-0 ∷ c.pop.new.self) x.body = record { at = x.goes; of = x.of; around = sym c.in-Some.ensures ∙ x.around } in
-    let w = ends Goes x.program.now x.level (strands_of_job job) c.in-Some.field-0 c.pop.new.self x.body c.ends.new.self h (c.in_ok-ends.ensures.ok job refl) in
+    let w = ends Goes x.program.now x.level (strands_of_job job) c.in-Some.field-0 c.pop.new.self x.body c.ends.new.self h (c.in-Ok.ensures.ok job refl) in
     record { goes = w.at; of = w.of; around = w.around }

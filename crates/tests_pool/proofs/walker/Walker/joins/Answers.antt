@@ -13,13 +13,13 @@ pub join-requires-clause-blocks : goal.join-requires-clause-blocks
 join-requires-clause-blocks c =
     let x = c.args.self in
     let h : Stands Goes x.program.now x.level x.levels x.body = record { at = x.goes; of = x.of; around = x.around } in
-    is_free Goes x.program.now x.level x.levels x.body h (c.in_ok-are_below.ensures c.if-not-branch.false)
+    is_free Goes x.program.now x.level x.levels x.body h (c.in-Ok.ensures c.if-not-below.false)
 
 pub invariant_of-right : goal.invariant_of-right
 invariant_of-right c =
     let x = c.args.self in
     let job = bare_job x.program.now in
     let h : Stands Goes x.program.now x.level x.levels x.body = record { at = x.goes; of = x.of; around = x.around } in
-    let w = joins Goes x.program.now x.level (strands_of_job job) x.levels x.body c.args.left.body c.join.new.self h (c.in_ok-are_below.ensures c.if-not-branch.false) (c.in_ok-join.ensures.ok job refl) in
+    let w = joins Goes x.program.now x.level (strands_of_job job) x.levels x.body c.args.left.body c.join.new.self h (c.in-Ok.ensures c.if-not-below.false) (c.in-Ok-join.ensures.ok job refl) in
     let down : c.saturating_sub.result ≡ x.level - 1 = search (rules, c.saturating_sub.ensures) in
     record { goes = w.at; of = w.of; around = w.around ∙ ap (λ k. levels_at k c.join.new.self.begins) (sym down) }
