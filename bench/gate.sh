@@ -76,18 +76,19 @@ while kill -0 "$runner" 2> /dev/null; do
 done
 wait "$runner"
 status=$?
-read -r wall user system < <(tail -n 1 "$times")
+read -r wall in_user in_system < <(tail -n 1 "$times")
 
 for key in "${!label[@]}"; do
   echo "${label[$key]} ${spent[$key]:-0}"
-done | awk -v hertz="$hertz" -v wall="$wall" -v user="$user" -v system="$system" '
+done | awk -v hertz="$hertz" -v wall="$wall" -v user_time="$in_user" -v system_time="$in_system" '
   { sum[$1] += $3 / hertz; of[$1, $2] += $3 / hertz; all[$2] += $3 / hertz; seen += $3 / hertz }
   function row(name, own, tests, seed, edits, whole) { printf "%-16s %7.0f %7.0f %7.0f %7.0f %8.0f\n", name, own, tests, seed, edits, whole }
   END {
     printf "%-16s %7s %7s %7s %7s %8s\n", "crate", "own", "tests", "seed", "edits", "seconds"
+    fflush()
     for (name in sum) row(name, of[name, "own"], of[name, "tests"], of[name, "seed"], of[name, "edits"], sum[name]) | "sort -k6,6nr"
     close("sort -k6,6nr")
     row("sum", all["own"], all["tests"], all["seed"], all["edits"], seen)
-    printf "else %.0f\nin all %.1f processor minutes, %.1f minutes of wall\n", user + system - seen, (user + system) / 60, wall / 60
+    printf "else %.0f\nin all %.1f processor minutes, %.1f minutes of wall\n", user_time + system_time - seen, (user_time + system_time) / 60, wall / 60
   }'
 exit "$status"

@@ -26,7 +26,7 @@ for crate; do
   cp -r "wrong-bodies/$crate" "crates/$crate/must-fail"
   wanted=$((wanted + $(find "crates/$crate/must-fail" -name '*.edit' | wc -l)))
 done
-rt must-fail "$@" 2>&1 | tee "$folder/said" | sed -n 's/^rt: must-fail //p; /must-fail/!p'
+rt must-fail "$@" 2>&1 | tee "$folder/said" | sed -n 's/^rt: must-fail //p; t; /must-fail/!p'
 refused=$(grep -c 'must-fail .*: refused, as it must be' "$folder/said")
 echo "$refused refused, $((wanted - refused)) not"
 [ "$refused" = "$wanted" ]
