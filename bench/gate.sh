@@ -42,7 +42,7 @@ fields_of() {
 sample() {
   local pid top above name fields key
   declare -A parent taken start now
-  for pid in $(pgrep -x 'rattle|antt-kernel'); do
+  for pid in $(pgrep -x rattle) $(pgrep -x antt-kernel); do
     fields_of "$pid" || continue
     parent[$pid]=${fields[1]}
     taken[$pid]=$((fields[11] + fields[12] + fields[13] + fields[14]))
@@ -82,13 +82,13 @@ for key in "${!label[@]}"; do
   echo "${label[$key]} ${spent[$key]:-0}"
 done | awk -v hertz="$hertz" -v wall="$wall" -v user_time="$in_user" -v system_time="$in_system" '
   { sum[$1] += $3 / hertz; of[$1, $2] += $3 / hertz; all[$2] += $3 / hertz; seen += $3 / hertz }
-  function row(name, own, tests, seed, edits, whole) { printf "%-16s %7.0f %7.0f %7.0f %7.0f %8.0f\n", name, own, tests, seed, edits, whole }
+  function row(name, own, tests, seed, edits, whole) { return sprintf("%-16s %7.0f %7.0f %7.0f %7.0f %8.0f", name, own, tests, seed, edits, whole) }
   END {
     printf "%-16s %7s %7s %7s %7s %8s\n", "crate", "own", "tests", "seed", "edits", "seconds"
     fflush()
-    for (name in sum) row(name, of[name, "own"], of[name, "tests"], of[name, "seed"], of[name, "edits"], sum[name]) | "sort -k6,6nr"
+    for (name in sum) print row(name, of[name, "own"], of[name, "tests"], of[name, "seed"], of[name, "edits"], sum[name]) | "sort -k6,6nr"
     close("sort -k6,6nr")
-    row("sum", all["own"], all["tests"], all["seed"], all["edits"], seen)
+    print row("sum", all["own"], all["tests"], all["seed"], all["edits"], seen)
     printf "else %.0f\nin all %.1f processor minutes, %.1f minutes of wall\n", user_time + system_time - seen, (user_time + system_time) / 60, wall / 60
   }'
 exit "$status"
