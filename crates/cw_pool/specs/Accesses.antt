@@ -1,9 +1,7 @@
--- What a strand wants of a cell, what it is given, and what follows a refusal.
+-- What a strand wants of a cell, and what follows a refusal.
 use Rattle.std.specs.Prelude.{◌≡◌, ℕ, ℤ, Option, Some, None}
 use Rattle.cw_strand.specs.declared.want.Want.{Want}
 use Rattle.cw_strand.specs.declared.want.Want.TheVariants.{Load, Store}
-use Rattle.cw_strand.specs.declared.want.Given.{Given}
-use Rattle.cw_strand.specs.declared.want.Given.TheVariants.{Nothing, Value}
 use Rattle.cw_tree.specs.declared.conflict.Conflict.{Conflict}
 use Rattle.cw_tree.specs.declared.closed.Halt.TheVariants.{Budget}
 use Rattle.cw_log.specs.declared.token.Token.{Token}
@@ -21,11 +19,6 @@ abbrev pub WantsNone : Want → Type 0
 WantsNone (Load c) = ⊥
 WantsNone (Store c v) = ⊥
 WantsNone w = Unit {0}
-
--- a read is given the cell's value, a write nothing
-abbrev pub given_for : Option ℤ → ℤ → Given
-given_for None v = Value v
-given_for (Some w) v = Nothing
 
 -- the conflict's victim is a block around the strand, unless it is 0, which stands for no victim
 abbrev pub MayFell : Token → Conflict → Type 0

@@ -1,7 +1,7 @@
 //! Accesses, made and refused.
 ghost use Rattle.std.specs.Prelude.{◌≡◌, MatchOption};
 ghost use Rattle.cw_log.specs.Tokens.{IsOn, MayHalt};
-ghost use Rattle.cw_pool.specs.Accesses.{IsAfter, MayFell, WantsNone, access_want, given_for};
+ghost use Rattle.cw_pool.specs.Accesses.{IsAfter, MayFell, WantsNone, access_want};
 ghost use Rattle.cw_tree.specs.declared.closed.Halt.TheVariants as halt;
 ghost use Rattle.cw_body.specs.declared.stage.Stage.TheVariants as stage;
 
@@ -21,15 +21,6 @@ fn access_of(want: Want) -> Option<(u32, Option<i64>)>
         Want::Load(cell) => Some((cell, None)),
         Want::Store(cell, value) => Some((cell, Some(value))),
         _ => None,
-    }
-}
-
-fn given_for(write: Option<i64>, value: i64) -> Given
-    ensures { result ≡ given_for write value }
-{
-    match write {
-        None => Given::Value(value),
-        Some(_) => Given::Nothing,
     }
 }
 
@@ -74,7 +65,10 @@ pub(crate) fn access_cell<B: SharedBoard, J: Naming, R: Wait>(
         return halt_out_of_memory(scene, now);
     };
     match access {
-        Access::Value(value) => match now.body.answer(given_for(write, value), scene.program) {
+        Access::Value(value) => match now
+            .body
+            .answer(Given::of_access(write, value), scene.program)
+        {
             Ok(()) => {}
             Err(_) => {
                 scene.board.halt(&mut now.token, Halt::Memory);

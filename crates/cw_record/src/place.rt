@@ -1,6 +1,6 @@
-ghost use Rattle.std.specs.Prelude.{◌≡◌, ◌<◌, IfOk, IfSome, length, map, option_map};
+ghost use Rattle.std.specs.Prelude.{◌≡◌, ◌<◌, IfOk, length, map, option_map};
 ghost use Rattle.std.specs.Option.{option_map_or};
-ghost use Rattle.cw_tree.specs.Nodes.{all_nodes, below, block_with_stamp};
+ghost use Rattle.cw_tree.specs.Nodes.{all_nodes};
 ghost use Rattle.cw_tree.specs.Series.{strand_of, place, last_of};
 ghost use Rattle.cw_tree.specs.Refusals.{tells, telling};
 ghost use Rattle.cw_record.specs.Items.{place_of_refused, place_of_end};
@@ -8,11 +8,9 @@ ghost use Rattle.cw_record.specs.Items.{place_of_refused, place_of_end};
 use crate::RecordEnd;
 use cw_base::OutOfMemory;
 use cw_tree::{Conflict, Tree};
-use std::alloc::Global;
 
 /// Returns the place where a run ended.
 pub(crate) fn place_of_end(
-    alloc: Global,
     tree: &Tree,
     conflicts: &[Conflict],
     aborts: u32,
@@ -23,40 +21,14 @@ pub(crate) fn place_of_end(
 {
     match end {
         RecordEnd::Fault { strand, .. } => {
-            let strands = strands(alloc, tree)?;
+            let strands = tree.strands()?;
             Ok(place(tree, strands.as_slice(), *strand))
         }
         RecordEnd::Budget { strand } => {
-            let strands = strands(alloc, tree)?;
+            let strands = tree.strands()?;
             Ok(place_of_budget(tree, strands.as_slice(), conflicts, aborts, *strand))
         }
         _ => Ok(0),
-    }
-}
-
-// Returns for each node the strand that it belongs to.
-fn strands(alloc: Global, tree: &Tree) -> Result<Vec<u32>, OutOfMemory>
-    ensures { IfOk result (λ ss. ss.items ≡ map (strand_of tree.now) (all_nodes tree.now)) }
-{
-    let count = tree.nodes().len();
-    let mut strands = Vec::with_capacity(alloc, count)?;
-    for n in 0..count as u32 {
-        let strand = strand(tree, strands.as_slice(), n);
-        strands.push(strand)?;
-    }
-    Ok(strands)
-}
-
-// Returns the strand of node `n`, from the strands of the nodes before it.
-fn strand(tree: &Tree, before: &[u32], n: u32) -> u32
-    requires there { n < length tree.now }
-    requires before { before.now ≡ map (strand_of tree.now) (below n) }
-    ensures { result ≡ strand_of tree.now n }
-{
-    if n == 0 || tree.is_strand(n) {
-        n
-    } else {
-        before[tree.parent(n) as usize]
     }
 }
 
@@ -112,7 +84,6 @@ fn place_of_budget(
 
 /// Returns the first conflict that tells that `strand` has spent its budget.
 pub(crate) fn telling<'c>(
-    alloc: Global,
     tree: &Tree,
     conflicts: &'c [Conflict],
     budget: u32,
@@ -120,7 +91,7 @@ pub(crate) fn telling<'c>(
 ) -> Result<Option<&'c Conflict>, OutOfMemory>
     ensures { IfOk result (λ found. option_map (λ c. c.now) found ≡ telling tree.now conflicts.now budget strand) }
 {
-    let strands = strands(alloc, tree)?;
+    let strands = tree.strands()?;
     Ok(find_telling(tree, strands.as_slice(), conflicts, budget, strand))
 }
 
@@ -153,7 +124,7 @@ fn tells(tree: &Tree, strands: &[u32], last: u32, strand: u32, conflict: &Confli
     if conflict.victim == 0 {
         return last == conflict.asker;
     }
-    match block_with_stamp(tree, conflict.victim) {
+    match tree.block_with_stamp(conflict.victim) {
         Some(block) => strands[block as usize] == strand,
         None => false,
     }
@@ -167,18 +138,5 @@ fn place_of_refused(tree: &Tree, conflict: &Conflict) -> u32
     if conflict.victim == 0 {
         return conflict.asker;
     }
-    tree.parent(block_with_stamp(tree, conflict.victim).unwrap_or(0))
-}
-
-// Returns the block that was begun at `stamp`.
-fn block_with_stamp(tree: &Tree, stamp: u64) -> Option<u32>
-    ensures result { result ≡ block_with_stamp tree.now stamp }
-    ensures there { IfSome result (λ b. b < length tree.now) }
-{
-    for n in 0..tree.nodes().len() as u32 {
-        if tree.is_block(n) && tree.node(n).stamp == stamp {
-            return Some(n);
-        }
-    }
-    None
+    tree.parent(tree.block_with_stamp(conflict.victim).unwrap_or(0))
 }

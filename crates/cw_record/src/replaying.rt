@@ -77,7 +77,7 @@ pub(crate) fn is_followed(alloc: Global, kept: &Record) -> Result<bool, OutOfMem
     }
     let want = play.at(kept.order.last);
     drop(play);
-    is_spent(alloc, kept, want?)
+    is_spent(kept, want?)
 }
 
 /// Returns what the machine puts back if `want` gives up a block, otherwise nothing.
@@ -139,14 +139,14 @@ fn same_backs(a: &[Back], b: &[Back]) -> bool
 }
 
 /// Returns whether the last strand, which wants `want`, is at what was refused, if it spent its budget. Otherwise returns true.
-fn is_spent(alloc: Global, kept: &Record, want: Option<Want>) -> Result<bool, OutOfMemory>
+fn is_spent(kept: &Record, want: Option<Want>) -> Result<bool, OutOfMemory>
     ensures { IfOk result (λ b. IsTrue b ↔ WantsRefused kept.now kept.now.end want) }
 {
     let RecordEnd::Budget { strand } = &kept.end else {
         return Ok(true);
     };
     let conflicts = kept.conflicts.as_slice();
-    let told = telling(alloc, &kept.tree, conflicts, kept.limits.aborts, *strand)?;
+    let told = telling(&kept.tree, conflicts, kept.limits.aborts, *strand)?;
     match told {
         Some(conflict) => Ok(is_refused(conflict, want)),
         None => Ok(false),

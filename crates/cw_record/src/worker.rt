@@ -24,7 +24,6 @@ use cw_code::{FaultKind, Limits, Program};
 use cw_job::{Standing, Task, first_memory, value_at};
 use cw_serial::Undo;
 use cw_strand::{Given, Want};
-use cw_tree::Tree;
 use std::alloc::Global;
 
 /// A fork on the way down to the running strand, with its node.
@@ -319,7 +318,7 @@ impl<'a> Worker<'a> {
         drop(self.undo);
         drop(self.strand);
         let mut drawing = self.drawing;
-        let strand = strand_of(&drawing.tree, drawing.place);
+        let strand = drawing.tree.strand_of(drawing.place);
         let mut branches = self.branches;
         while let Some(branch) = branches.pop() {
             match branch {
@@ -335,16 +334,4 @@ impl<'a> Worker<'a> {
             end: RecordEnd::Fault { strand, kind },
         })
     }
-}
-
-/// Returns the strand that node `n` belongs to.
-fn strand_of(tree: &Tree, n: u32) -> u32
-    requires { n < length tree.now }
-    ensures { result ≡ strand_of tree.now n }
-{
-    let mut at = n;
-    while at > 0 && !tree.is_strand(at) {
-        at = tree.parent(at);
-    }
-    at
 }

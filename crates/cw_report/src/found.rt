@@ -34,7 +34,7 @@ impl Found {
         Ok(Found {
             forks: tree.fork_numbers()?,
             sides: tree.right_strands()?,
-            strands: strands(alloc, tree)?,
+            strands: tree.strands()?,
             first: first_nodes(alloc, tree)?,
         })
     }
@@ -115,31 +115,6 @@ fn push_turns(text: &mut String, turns: &[Turn]) -> Result<(), OutOfMemory>
         push_turn(text, turn)?;
     }
     Ok(())
-}
-
-// Returns the strand of each node.
-fn strands(alloc: Global, tree: &Tree) -> Result<Vec<u32>, OutOfMemory>
-    ensures { IfOk result (λ ss. ss.items ≡ map (strand_of tree.now) (all_nodes tree.now)) }
-{
-    let count = tree.nodes().len();
-    let mut strands = Vec::with_capacity(alloc, count)?;
-    for n in 0..count as u32 {
-        let strand = strand_at(tree, strands.as_slice(), n);
-        strands.push(strand)?;
-    }
-    Ok(strands)
-}
-
-// Returns the strand of node `n`, given the strands of the nodes before it.
-fn strand_at(tree: &Tree, before: &[u32], n: u32) -> u32
-    requires there { n < length tree.now }
-    requires before { before.now ≡ map (strand_of tree.now) (below n) }
-    ensures { result ≡ strand_of tree.now n }
-{
-    if n == 0 || tree.is_strand(n) {
-        return n;
-    }
-    before[tree.parent(n) as usize]
 }
 
 // Returns for each stamp the first node that has it.

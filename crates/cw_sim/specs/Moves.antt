@@ -8,7 +8,7 @@ use Rattle.cw_strand.specs.declared.want.Want.{Want}
 use Rattle.cw_strand.specs.declared.want.Want.TheVariants as want
 use Rattle.cw_strand.specs.declared.want.Given.{Given}
 use Rattle.cw_strand.specs.declared.want.Given.TheVariants.{Nothing, Value, Back}
-use Rattle.cw_strand.specs.Strands.{Strands}
+use Rattle.cw_strand.specs.Strands.{Strands, given_for}
 use Rattle.cw_open.specs.Machine.{has_finished, is_dying, in_block}
 use Rattle.cw_core.specs.declared.event.Event.{Event}
 use Rattle.cw_core.specs.declared.event.Event.TheVariants as event
@@ -18,11 +18,6 @@ use Rattle.cw_core.specs.State.{is_split, spent}
 use Rattle.cw_open.specs.Steps.{puts_back}
 use Rattle.cw_core.specs.Events.{after_event, reply_to, may_fork, next}
 use Rattle.cw_sim.specs.Workers.{Simulation, left_node, right_node, changed_at, with_fork, tree, worker, with_strand, with_worker, with_run}
-
--- what an access gives to its strand: the value for a read, nothing for a write
-abbrev pub given_for : Option ℤ → ℤ → Given
-given_for None v = Value v
-given_for (Some written) v = Nothing
 
 module _ {A : Type 0} where
   -- the simulation after an event of the core

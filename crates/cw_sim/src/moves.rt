@@ -4,7 +4,7 @@ ghost use Rattle.cw_strand.specs.declared.want.Given.TheVariants as given;
 ghost use Rattle.cw_strand.specs.Programs.{IsCompiled};
 ghost use Rattle.cw_job.specs.Jobs.{TakesWords, job_of_task};
 ghost use Rattle.cw_sim.specs.Workers.{left_node, right_node, tree, with_strand, worker};
-ghost use Rattle.cw_sim.specs.Moves.{access_cell, do_want, answer_want, begin_block, die, does, finish_strand, follow_up, fork_strand, give_up, given_for, is_run_over, join_strands, join_or_idle, move, others, steal, stop_if_spent, take_fork, go_to_right};
+ghost use Rattle.cw_sim.specs.Moves.{access_cell, do_want, answer_want, begin_block, die, does, finish_strand, follow_up, fork_strand, give_up, is_run_over, join_strands, join_or_idle, move, others, steal, stop_if_spent, take_fork, go_to_right};
 ghost use Rattle.cw_sim.specs.Runs.{closed_of, simulation_of};
 ghost use Rattle.cw_sim.specs.Turns.{ListsWorkers};
 ghost use Rattle.cw_open.specs.Machine.{has_finished};
@@ -37,16 +37,6 @@ pub(crate) struct Driver<'a> {
     /// What is saved at the begins of pending blocks.
     pub(crate) saved: ByNode<Saved>,
     pub(crate) workers: Vec<Worker>,
-}
-
-/// Returns what an access gives to its strand: the value for a read, nothing for a write.
-fn given_for(write: Option<i64>, value: i64) -> Given
-    ensures { result ≡ given_for write value }
-{
-    match write {
-        None => Given::Value(value),
-        Some(_) => Given::Nothing,
-    }
 }
 
 // Each rule does what the definition with its name says.
@@ -291,7 +281,7 @@ impl<'a> Driver<'a> {
             cell,
             write,
         })? {
-            Reply::Value(value) => self.answer_want(strand, given_for(write, value)),
+            Reply::Value(value) => self.answer_want(strand, Given::of_access(write, value)),
             _ => self.stop_if_spent(),
         }
     }

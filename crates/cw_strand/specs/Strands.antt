@@ -1,6 +1,6 @@
 -- The law of strands: all that a machine, a record or a replay knows of one. It is given twice: from the syntax tree in
 -- `Meaning`, and from compiled code in `Coded`.
-use Rattle.std.specs.Prelude.{◌≡◌, ℕ, zero, suc, ◌<◌, ◌≤◌, Bool, true, false, List, [], ◌∷◌}
+use Rattle.std.specs.Prelude.{◌≡◌, ℕ, ℤ, zero, suc, ◌<◌, ◌≤◌, Bool, true, false, List, [], ◌∷◌, Option, Some, None}
 use Rattle.cw_strand.specs.declared.want.Want.{Want}
 use Rattle.cw_strand.specs.declared.want.Want.TheVariants.{Load, Store, Out, Begin, End, Cancel, Fork, Sync, Done, Fault}
 use Rattle.cw_strand.specs.declared.want.Given.{Given}
@@ -59,6 +59,11 @@ IsAnswer n Begin Nothing = Unit {0}
 IsAnswer n End Nothing = Unit {0}
 IsAnswer n Cancel (Wrote bs) = AreElements n bs
 IsAnswer n w given = ⊥
+
+-- what an access of a cell gives to the strand: a read gets the cell's value, a write nothing
+abbrev pub given_for : (write : Option ℤ) → (value : ℤ) → Given
+given_for None v = Value v
+given_for (Some written) v = Nothing
 
 -- ## Blocks
 --

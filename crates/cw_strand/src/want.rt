@@ -1,3 +1,6 @@
+ghost use Rattle.std.specs.Prelude.{◌≡◌};
+ghost use Rattle.cw_strand.specs.Strands.{given_for};
+
 use cw_base::Seq;
 use cw_code::{Back, FaultKind};
 
@@ -32,4 +35,17 @@ pub enum Given {
     Nothing,
     Value(i64),
     Back(Seq<Back>),
+}
+
+impl Given {
+    /// Returns the answer to an access of a cell that holds `value` after it: the value for a read, nothing for a write.
+    /// `write` is the value written, or `None` for a read.
+    pub fn of_access(write: Option<i64>, value: i64) -> Given
+        ensures { result ≡ given_for write value }
+    {
+        match write {
+            None => Given::Value(value),
+            Some(_) => Given::Nothing,
+        }
+    }
 }

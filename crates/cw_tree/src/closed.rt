@@ -92,16 +92,9 @@ fn conflict_in_order(
     requires { numbers.now.items ≡ map (renamed tree.now) (all_nodes tree.now) }
     ensures { IfOk result (λ c. c ≡ conflict_in_order tree.now conflict.now) }
 {
-    let chain = Vec::from_slice(*numbers.allocator(), conflict.chain.as_slice())?;
-    Ok(Conflict {
-        cell: conflict.cell,
-        last: conflict.last,
-        asker: tree.renamed(numbers.as_slice(), conflict.asker),
-        block: conflict.block,
-        victim: conflict.victim,
-        attempt: conflict.attempt,
-        chain: Seq::from_vec(chain),
-    })
+    let asker = tree.renamed(numbers.as_slice(), conflict.asker);
+    let copy = conflict.try_clone(*numbers.allocator())?;
+    Ok(Conflict { asker, ..copy })
 }
 
 fn halt_in_order(tree: &Tree, numbers: &[u32], halt: Option<Halt>) -> Option<Halt>

@@ -1,5 +1,8 @@
-use cw_base::Seq;
+ghost use Rattle.std.specs.Prelude.{◌≡◌, IfOk};
+
+use cw_base::{OutOfMemory, Seq};
 use cw_code::Back;
+use std::alloc::Global;
 
 /// What a node of the tree is.
 #[derive(Drop)]
@@ -14,6 +17,32 @@ pub enum Kind {
     Tried { cell: u32 },
     /// A block was given up: what is put back.
     Cancel { back: Seq<Back> },
+}
+
+impl Kind {
+    /// Returns a copy of the kind.
+    pub fn try_clone(&self, alloc: Global) -> Result<Kind, OutOfMemory>
+        ensures { IfOk result (λ k. k ≡ self.now) }
+    {
+        Ok(match self {
+            Kind::Strand => Kind::Strand,
+            Kind::Fork => Kind::Fork,
+            Kind::Block => Kind::Block,
+            Kind::Read { cell, value } => Kind::Read {
+                cell: *cell,
+                value: *value,
+            },
+            Kind::Write { cell, value } => Kind::Write {
+                cell: *cell,
+                value: *value,
+            },
+            Kind::Out { value } => Kind::Out { value: *value },
+            Kind::Tried { cell } => Kind::Tried { cell: *cell },
+            Kind::Cancel { back } => Kind::Cancel {
+                back: Seq::from_vec(Vec::from_slice(alloc, back.as_slice())?),
+            },
+        })
+    }
 }
 
 /// What has become of a block. Other nodes are committed.

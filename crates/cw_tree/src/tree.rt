@@ -5,6 +5,7 @@ ghost use Rattle.cw_tree.specs.Walks.{IsNumbered};
 
 mod name;
 mod order;
+mod strands;
 mod walks;
 
 use crate::{BlockState, Kind, Node};

@@ -23,29 +23,13 @@ fn journals(alloc: Global, cells: &[Cell]) -> Result<Seq<Seq<Entry>>, OutOfMemor
     Ok(Seq::from_vec(journals))
 }
 
-/// Returns a copy of `conflict`.
-fn copy(alloc: Global, conflict: &Conflict) -> Result<Conflict, OutOfMemory>
-    ensures { IfOk result (λ c. c ≡ conflict.now) }
-{
-    let chain = Vec::from_slice(alloc, conflict.chain.as_slice())?;
-    Ok(Conflict {
-        cell: conflict.cell,
-        last: conflict.last,
-        asker: conflict.asker,
-        block: conflict.block,
-        victim: conflict.victim,
-        attempt: conflict.attempt,
-        chain: Seq::from_vec(chain),
-    })
-}
-
 /// Returns a copy of `conflicts`.
 fn copy_all(alloc: Global, conflicts: &[Conflict]) -> Result<Seq<Conflict>, OutOfMemory>
     ensures { IfOk result (λ cs. cs ≡ conflicts.now) }
 {
     let mut copies = Vec::with_capacity(alloc, conflicts.len())?;
     for conflict in conflicts {
-        copies.push(copy(alloc, conflict)?)?;
+        copies.push(conflict.try_clone(alloc)?)?;
     }
     Ok(Seq::from_vec(copies))
 }

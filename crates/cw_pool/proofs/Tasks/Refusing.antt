@@ -24,7 +24,8 @@ use Rattle.cw_pool.specs.declared.task.Mode.TheVariants as mode
 use Rattle.cw_pool.specs.declared.task.Below.{Below}
 use Rattle.cw_pool.specs.declared.task.Base.{Base}
 use Rattle.cw_pool.specs.Tasks.{Start, AreFalling, Fits, IsFree, StandsGoing, StandsDying, IsRunning, begins_in, seen_in}
-use Rattle.cw_pool.specs.Accesses.{access_want, given_for, IsAfter, MayFell}
+use Rattle.cw_pool.specs.Accesses.{access_want, IsAfter, MayFell}
+use Rattle.cw_strand.specs.Strands.{given_for}
 use Rattle.cw_pool.proofs.Tasks.Lists.{all_more, holds_it}
 use Rattle.cw_pool.proofs.Tasks.Going.{rebuilt, base_dies, fits_made}
 use Rattle.cw_pool.proofs.Tasks.Stopping.{is_halted, budget_no_fault}

@@ -6,7 +6,7 @@ use Rattle.std.proofs.lemmas.Bool.{and_left}
 use Rattle.cw_strand.specs.declared.want.Given.{Given}
 use Rattle.cw_strand.specs.declared.want.Want.{Want}
 use Rattle.cw_strand.specs.declared.want.Want.TheVariants.{End}
-use Rattle.cw_strand.specs.Strands.{Strands, IsAnswer}
+use Rattle.cw_strand.specs.Strands.{Strands, IsAnswer, given_for}
 use Rattle.cw_tree.specs.declared.closed.Halt.TheVariants as halt
 use Rattle.cw_tree.specs.declared.conflict.Conflict.{Conflict}
 use Rattle.cw_tree.specs.declared.node.Node.{Node}
@@ -24,7 +24,7 @@ use Rattle.cw_core.specs.State.{CoreState, spent}
 use Rattle.cw_core.specs.Events.{fits, after_event, reply_to, is_met, met_by, next}
 use Rattle.cw_core.specs.Laws.{IsCore}
 use Rattle.cw_sim.specs.Workers.{Simulation, changed_at}
-use Rattle.cw_sim.specs.Moves.{does, given_for, meets_cell, stop_if_spent, access_cell}
+use Rattle.cw_sim.specs.Moves.{does, meets_cell, stop_if_spent, access_cell}
 use Rattle.cw_sim.specs.Kept.{CoreGoesOn}
 use Rattle.cw_sim.specs.Laws.{NamesCell}
 use Rattle.cw_sim.specs.Inside.{HasInside}

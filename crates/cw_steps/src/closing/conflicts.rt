@@ -17,16 +17,8 @@ fn move_conflict(alloc: Global, base: u32, conflict: &Conflict) -> Result<Confli
     let Some(asker) = base.checked_add(conflict.asker) else {
         return Err(OutOfMemory);
     };
-    let chain = Vec::from_slice(alloc, conflict.chain.as_slice())?;
-    Ok(Conflict {
-        cell: conflict.cell,
-        last: conflict.last,
-        asker,
-        block: conflict.block,
-        victim: conflict.victim,
-        attempt: conflict.attempt,
-        chain: Seq::from_vec(chain),
-    })
+    let copy = conflict.try_clone(alloc)?;
+    Ok(Conflict { asker, ..copy })
 }
 
 /// Adds copies of the conflicts of the log that begins at number `base`.

@@ -12,31 +12,6 @@ use cw_base::OutOfMemory;
 use cw_log::Stop;
 use cw_tree::{Conflict, Halt, Tree};
 
-/// Returns the block that began at `stamp`.
-fn block_with_stamp(tree: &Tree, stamp: u64) -> Option<u32>
-    ensures result { result ≡ block_with_stamp tree.now stamp }
-    ensures there { IfSome result (λ b. b < length tree.now) }
-{
-    for n in 0..tree.nodes().len() as u32 {
-        if tree.is_block(n) && tree.node(n).stamp == stamp {
-            return Some(n);
-        }
-    }
-    None
-}
-
-/// Returns the strand in which `node` stands.
-fn strand_of(tree: &Tree, node: u32) -> u32
-    requires { node < length tree.now }
-    ensures { result ≡ strand_of tree.now node }
-{
-    let mut at = node;
-    while at > 0 && !tree.is_strand(at) {
-        at = tree.parent(at);
-    }
-    at
-}
-
 /// Returns the strand that began the victim's block, or `strand` if there is no victim or no such block.
 fn spender(tree: &Tree, victim: u64, strand: u32) -> u32
     ensures { result ≡ (if victim == 0 then strand else option_map_or (strand_of tree.now) (block_with_stamp tree.now victim) strand) }
@@ -44,8 +19,8 @@ fn spender(tree: &Tree, victim: u64, strand: u32) -> u32
     if victim == 0 {
         return strand;
     }
-    match block_with_stamp(tree, victim) {
-        Some(block) => strand_of(tree, block),
+    match tree.block_with_stamp(victim) {
+        Some(block) => tree.strand_of(block),
         None => strand,
     }
 }

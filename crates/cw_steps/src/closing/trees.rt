@@ -8,32 +8,9 @@ ghost use Rattle.cw_steps.specs.Leaving.{logs_of_track, HasBases, IsPlain};
 
 use super::bases::Bases;
 use crate::Track;
-use cw_base::{OutOfMemory, Seq};
+use cw_base::OutOfMemory;
 use cw_tree::{BlockState, Kind, Node, Tree};
 use std::alloc::Global;
-
-fn copy_kind(alloc: Global, kind: &Kind) -> Result<Kind, OutOfMemory>
-    ensures { IfOk result (λ k. k ≡ kind.now) }
-{
-    Ok(match kind {
-        Kind::Strand => Kind::Strand,
-        Kind::Fork => Kind::Fork,
-        Kind::Block => Kind::Block,
-        Kind::Read { cell, value } => Kind::Read {
-            cell: *cell,
-            value: *value,
-        },
-        Kind::Write { cell, value } => Kind::Write {
-            cell: *cell,
-            value: *value,
-        },
-        Kind::Out { value } => Kind::Out { value: *value },
-        Kind::Tried { cell } => Kind::Tried { cell: *cell },
-        Kind::Cancel { back } => Kind::Cancel {
-            back: Seq::from_vec(Vec::from_slice(alloc, back.as_slice())?),
-        },
-    })
-}
 
 /// Whether a node is committed and has no end.
 fn is_plain(node: &Node) -> bool
@@ -56,7 +33,7 @@ fn hang(alloc: Global, tree: &mut Tree, parent: u32, node: &Node) -> Result<(), 
     if parent as usize >= tree.nodes().len() {
         return Err(OutOfMemory);
     }
-    let number = tree.add(parent, copy_kind(alloc, &node.kind)?, node.stamp)?;
+    let number = tree.add(parent, node.kind.try_clone(alloc)?, node.stamp)?;
     if tree.is_block(number) {
         tree.close(number, node.state, node.end);
         Ok(())

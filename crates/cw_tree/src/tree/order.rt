@@ -4,9 +4,8 @@ ghost use Rattle.cw_tree.specs.Nodes.{all_nodes};
 ghost use Rattle.cw_tree.specs.Series.{children, depth_first};
 ghost use Rattle.cw_tree.specs.Links.{last_child, child_before};
 
-use crate::{Kind, Node, Tree};
-use cw_base::{OutOfMemory, Seq};
-use std::alloc::Global;
+use crate::{Node, Tree};
+use cw_base::OutOfMemory;
 
 /// For each node its last child, and the last earlier child of its parent.
 #[derive(Drop)]
@@ -123,34 +122,10 @@ impl Tree {
         let node = self.node(n);
         Ok(Node {
             parent: self.renamed(numbers, node.parent),
-            kind: copied(*self.nodes.allocator(), &node.kind)?,
+            kind: node.kind.try_clone(*self.nodes.allocator())?,
             state: node.state,
             stamp: node.stamp,
             end: node.end,
         })
     }
-}
-
-// Returns a copy of `kind`.
-fn copied(alloc: Global, kind: &Kind) -> Result<Kind, OutOfMemory>
-    ensures { IfOk result (λ k. k ≡ kind.now) }
-{
-    Ok(match kind {
-        Kind::Strand => Kind::Strand,
-        Kind::Fork => Kind::Fork,
-        Kind::Block => Kind::Block,
-        Kind::Read { cell, value } => Kind::Read {
-            cell: *cell,
-            value: *value,
-        },
-        Kind::Write { cell, value } => Kind::Write {
-            cell: *cell,
-            value: *value,
-        },
-        Kind::Out { value } => Kind::Out { value: *value },
-        Kind::Tried { cell } => Kind::Tried { cell: *cell },
-        Kind::Cancel { back } => Kind::Cancel {
-            back: Seq::from_vec(Vec::from_slice(alloc, back.as_slice())?),
-        },
-    })
 }

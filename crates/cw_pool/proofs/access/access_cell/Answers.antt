@@ -7,7 +7,8 @@ use Rattle.cw_job.specs.Jobs.{bare_job}
 use Rattle.cw_log.specs.declared.board.Access.{Access}
 use Rattle.cw_log.specs.Answers.{Meets}
 use Rattle.cw_body.specs.Bodies.{AnswersAct, elements_of}
-use Rattle.cw_pool.specs.Accesses.{access_want, given_for}
+use Rattle.cw_pool.specs.Accesses.{access_want}
+use Rattle.cw_strand.specs.Strands.{given_for}
 use Rattle.cw_pool.proofs.Tasks.Refusing.{cell_there, answers_act, made_so, made_last, refused_so, victim_there}
 use Rattle.cw_pool.proofs.access.access_cell.Goals as goal
 
@@ -19,8 +20,8 @@ access-requires-clause-cell g c =
 pub answer-requires-clause-answers : goal.answer-requires-clause-answers
 answer-requires-clause-answers g c =
     let n = elements_of c.now.inside.body in
-    subst (λ (w : Want). AnswersAct n w c.given_for.result) (sym (sym (c.want.ensures (bare_job c.now.inside.body.program)) ∙ c.in-Some.ensures))
-    (subst (λ (y : Given). AnswersAct n (access_want c.in-Some.cell c.in-Some.write) y) (sym c.given_for.ensures) (answers_act n c.in-Some.cell c.in-Some.write _))
+    subst (λ (w : Want). AnswersAct n w c.of_access.result) (sym (sym (c.want.ensures (bare_job c.now.inside.body.program)) ∙ c.in-Some.ensures))
+    (subst (λ (y : Given). AnswersAct n (access_want c.in-Some.cell c.in-Some.write) y) (sym c.of_access.ensures) (answers_act n c.in-Some.cell c.in-Some.write _))
 
 pub mode_after_conflict-now-inside-requires-clause-victim : goal.mode_after_conflict-now-inside-requires-clause-victim
 mode_after_conflict-now-inside-requires-clause-victim g c lives within =
@@ -32,7 +33,7 @@ invariant_of-now-in-Ok-answer g c =
     let (w, (stamp, made_now)) = subst (λ (a : Access). Meets (g.B.SharedBoard.of c.now.inside.token) (g.B.SharedBoard.of c.access.new.token) c.in-Some.cell c.in-Some.write a) c.in-Value.is c.in-Ok.ensures.ok in
     let signed : SFits w64 c.in-Value.value = search rules in
     made_so _ _ _ _ _ _ _ _ _ c.in-Some.cell c.in-Some.write c.in-Value.value stamp _ c.in-Goes.is c.now.invariant (sym (c.want.ensures g.J.Naming-1.job) ∙ c.in-Some.ensures) w made_now
-    (c.given_for.ensures ∙ ap (λ v. given_for c.in-Some.write v) (to_z-of_z w64 c.in-Value.value signed)) (c.in-Ok-answer.ensures.ok g.J.Naming-1.job (sym c.args.scene.now.program_of))
+    (c.of_access.ensures ∙ ap (λ v. given_for c.in-Some.write v) (to_z-of_z w64 c.in-Value.value signed)) (c.in-Ok-answer.ensures.ok g.J.Naming-1.job (sym c.args.scene.now.program_of))
 
 pub invariant_of-now-in-Err : goal.invariant_of-now-in-Err
 invariant_of-now-in-Err g c =

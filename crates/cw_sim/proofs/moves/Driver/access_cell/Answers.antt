@@ -3,7 +3,8 @@ use Rattle.std.proofs.Common.{ap, ◌∙◌, w64, SFits, rules}
 use Rattle.std.proofs.lemmas.Int.{to_z-of_z}
 use Rattle.std.proofs.lemmas.Result.{on_ok_weaker}
 use Rattle.cw_core.specs.declared.event.Event.TheVariants as event
-use Rattle.cw_sim.specs.Moves.{given_for, does}
+use Rattle.cw_sim.specs.Moves.{does}
+use Rattle.cw_strand.specs.Strands.{given_for}
 use Rattle.cw_sim.proofs.InMemory.Accesses.{access_fits_there, access_may, access_comes, refused_stands, refused_comes}
 use Rattle.cw_sim.proofs.moves.Driver.access_cell.Goals as goal
 use Rattle.cw_sim.proofs.moves.Driver.access_cell.Goals.{in-Value, in_default}
@@ -28,12 +29,12 @@ returns c =
     elim c.match-branch-2.branch [
       | in-Value w ↦
           (let signed : SFits w64 w.in-Value.value = search rules in
-          let given = w.given_for.ensures ∙ ap (given_for write) (to_z-of_z w64 w.in-Value.value signed) in
+          let given = w.of_access.ensures ∙ ap (given_for write) (to_z-of_z w64 w.in-Value.value signed) in
           rw (w.result-is, w.self-is)
           (on_ok_weaker w.answer_want.result
           (λ stands z may.
           let r = c.in_ok-value.field-0 in
-          access_comes s x cell write z may w.in-Value.value r w.in-Value.is c.in_ok-value.ensures.reply w.given_for.result given w.answer_want.new.self
+          access_comes s x cell write z may w.in-Value.value r w.in-Value.is c.in_ok-value.ensures.reply w.of_access.result given w.answer_want.new.self
           (stands (record z { m = does (event.Access x cell write) z.m })
           (access_may s x cell write z may w.in-Value.value r w.in-Value.is c.in_ok-value.ensures.reply c.step.new.self c.in_ok-value.ensures.ok c.in_ok-value.ensures.stands)))
           w.answer_want.ensures.stands))

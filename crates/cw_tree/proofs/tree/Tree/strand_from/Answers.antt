@@ -3,14 +3,14 @@ use Rattle.cw_tree.specs.Nodes.{is_strand}
 use Rattle.cw_tree.specs.Series.{strand_of}
 use Rattle.cw_tree.proofs.Lists.{length_map_below, get_map_below}
 use Rattle.cw_tree.proofs.Walks.Strands.{strand_of_other, strand_of_root, strand_of_strand}
-use Rattle.cw_report.proofs.found.strand_at.Goals as goal
+use Rattle.cw_tree.proofs.tree.Tree.strand_from.Goals as goal
 
 pub bounds-before-parent : goal.bounds-before-parent
-bounds-before-parent c = omega (arith, ap length c.requires.before, length_map_below (strand_of c.args.tree.now) c.args.n, c.parent.ensures.low (omega arith))
+bounds-before-parent c = omega (arith, ap length c.requires.before, length_map_below (strand_of c.args.self.now) c.args.n, c.parent.ensures.low (omega arith))
 
 pub returns : goal.returns
 returns c =
-    let t = c.args.tree.now in
+    let t = c.args.self.now in
     let q = c.parent.result in
     let no_strand : is_strand t c.args.n ≡ false = search rules in
     ap (λ xs. get_or xs q 0) c.requires.before

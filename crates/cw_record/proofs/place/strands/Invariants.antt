@@ -1,7 +1,0 @@
-use Rattle.std.proofs.Common.{◌≡◌, map}
-use Rattle.cw_tree.specs.Nodes.{below}
-use Rattle.cw_tree.specs.Series.{strand_of}
-use Rattle.cw_record.proofs.place.strands.Given as goal
-
-abbrev pub invariant-loop-n : goal.invariant-loop-n
-invariant-loop-n l = l.strands.items ≡ map (strand_of l.tree) (below l.n)
