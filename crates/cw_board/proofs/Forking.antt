@@ -34,7 +34,7 @@ use Rattle.cw_board.proofs.Boards.{is_now}
 use Rattle.cw_board.proofs.Holding.{lists_held}
 use Rattle.cw_board.proofs.Sound.{sound_branched, sound_forked, sound_later, sound_right}
 
--- a fork takes so many columns more, of a strand in column c with this word
+-- a fork takes k more columns; its strand is in column c with the word w
 module _ (k w c : ℕ) where
   pub newest_more : (ts : List Turn) → newest_slot (with_more k w c ts) ≡ newest_slot ts
   newest_more [] = refl

@@ -49,7 +49,7 @@ since_is t u h =
     let many : length (view_of u).notes - length (view_of t).notes ≡ length h.notes = omega (arith, ap length all, length-append h.notes (view_of t).notes) in
     (λ i. take (many i) (all i)) ∙ take_at h.notes (view_of t).notes (length h.notes) refl
 
--- what was told stays told
+-- an answer stays one when more is noted
 told_more : (c : ColumnTable) (cells : ℕ) (more notes : List Note) → Stays (ToldBy c cells notes) (ToldBy c cells (more ++ notes))
 told_more c cells more notes (Owner i) a h = h
 told_more c cells more notes (Lead t) a h = h

@@ -1,9 +1,9 @@
 //! The board of running threads: what a strand does, by steps of its token on the table that threads share. Use it where strands
 //! run on several threads at once; one thread needs only `cw_record`, and a simulation `cw_core`.
-//! Contracts cite `specs/Tokens.antt` of `cw_log` (what each call makes of what a token stands for, and what calls ask), and here
-//! `specs/Boards.antt` (what a token of a board is, and what journals are), `specs/Sound.antt` (what is true of a token between two
-//! calls), `specs/Turns.antt` (what it knows while it has a turn), `specs/Asked.antt` (questions and their answers) and
-//! `specs/Victims.antt` (what a refused access tells).
+//! Contracts cite `specs/Tokens.antt` of `cw_log`: what a token stands for, how each call changes that, and what each call
+//! requires. Here they cite `specs/Boards.antt` (what a token of a board is, and what journals are), `specs/Sound.antt` (what is
+//! true of a token between two calls), `specs/Turns.antt` (what it knows while it has a turn), `specs/Asked.antt` (questions and
+//! their answers) and `specs/Victims.antt` (what a refused access tells).
 #![tactic(auto)]
 
 mod access;

@@ -47,7 +47,7 @@ same_parts_is (p ∷ ps) (q ∷ qs) e =
 
 -- ## Numbers of parts
 
--- how many blocks an instruction leaves of so many
+-- how many blocks are open after an instruction, given how many were before it
 abbrev pub blocks_after : Option Effect → ℕ → ℕ
 blocks_after (Some begin) n = n + 1
 blocks_after (Some end) n = n - 1

@@ -162,7 +162,7 @@ module _ (c : Code) (f : Func) (expected : ℕ → Situation) where
   abbrev IsClosed : Places → Type 0
   IsClosed t = (k : ℕ) → k < size_of f → IsKnown t k → GoesOn t k
 
-  -- the table after a pass over the first so many places
+  -- the table after a pass over the first n places
   record Passed (n : ℕ) (t u : Places) : Type 0 where
     right : IsRight u
     stays : IsWithin t u

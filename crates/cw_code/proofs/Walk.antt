@@ -10,7 +10,7 @@ use Rattle.cw_code.specs.Table.{Effect}
 use Rattle.cw_code.specs.Rules.{Situation, effect_of, pops, operand_faults, at_start, passed, onwards, jumps, never_passed, natural, if_inside, target_of, inside, is_target, is_border, is_torn}
 use Rattle.cw_code.proofs.Expected.{FitsAt, next_behind}
 
--- so many operands, and these parts
+-- the situation with h operands and these parts
 abbrev pub at : ℕ → List Part → Situation
 at h ps = record { height = h; parts = ps }
 

@@ -20,7 +20,7 @@ instruction_text (Some r) i = 32 ∷ (effect_name r.effect ++ operands r.operand
 abbrev pub instruction_line : ℕ → Instr → List ℕ
 instruction_line p i = decimal p ++ (instruction_text (row_at i.op) i ++ 10 ∷ [])
 
--- the lines of instructions, of which the first is at the place p
+-- the lines of instructions, from the place p on
 abbrev pub lines_from : ℕ → List Instr → List ℕ
 lines_from p [] = []
 lines_from p (i ∷ is) = instruction_line p i ++ lines_from (p + 1) is

@@ -50,7 +50,7 @@ module _ {V : Type 0} where
 
   -- ## Fewer names
 
-  -- where more than so many are there, one fewer leaves the same
+  -- if there are more than k, one fewer leaves the same
   pub drop_next : (xs : List (List ℕ × V)) (k : ℕ) → k < length xs → drop (length (drop 1 xs) - k) (drop 1 xs) ≡ drop (length xs - k) xs
   drop_next [] k more = absurd (omega arith)
   drop_next (x ∷ xs) k more = let one : suc (length xs) - k ≡ suc (length xs - k) = omega arith in rw one refl

@@ -51,8 +51,8 @@ pub record IsTail (t : List Node) (n : ℕ) (r : Tail) : Type 0 where
   pub aborted : suffix_len (is_aborted t) (children t n) ≡ r.aborted
   pub tried : (c : ℕ) → suffix_len (λ m. same_cell (tried_cell t m) (Some c)) (children t n) ≡ (if r.cell == c then r.tried else 0)
 
--- block v is pending, and has to be rolled back for access c, which was refused beneath strand s and not beneath an unjoined fork
--- of s
+-- block v is pending, and has to be rolled back for access c; c was refused beneath strand s, but not beneath a fork that s made
+-- and has not joined
 pub record IsAtStake (m : OpenMachine) (s : ℕ) (c : Conflict) (v : ℕ) : Type 0 where
   pub over : is_above m.tree s c.asker ≡ true
   pub falls : falls m c v ≡ true

@@ -1,8 +1,8 @@
-//! The core: the computation tree, traces, query and cells of strands that run at the same time, on one thread. Each event is a run
-//! of the open machine.
+//! The core: the computation tree, traces, query and cells of strands that run at the same time, all on one thread.
+//! Each event is a run of the open machine.
 //! Use it to run strands event by event: `fits` tells whether an event may be made, `step` makes it, `close` returns what is left.
-//! Contracts cite `specs/State.antt` (what a caller sees), `specs/Events.antt` (which events fit, the steps that each stands for,
-//! and the replies), `specs/Laws.antt` (what is true between events) and `specs/Closing.antt` (what a core leaves).
+//! Contracts cite `specs/State.antt` (what a caller sees), `specs/Events.antt` (which events fit, the steps of each, and the
+//! replies), `specs/Laws.antt` (what is true between events) and `specs/Closing.antt` (what a core leaves).
 //! `specs/Worked.antt` tries them.
 #![tactic(auto)]
 

@@ -1,5 +1,4 @@
-//! Courses: what strands did, as their logs tell it, and when logs are a coherent record. There are laws here, and no code that
-//! runs.
+//! Courses: what strands did, as their logs tell it, and when logs are a coherent record. No code here runs.
 //! Use it to show that a runtime of yours leaves coherent records. `proofs/Trails` has the lemmas on how a log grows while its
 //! strand runs, over the definitions of `specs/Trails.antt`.
 //! Contracts cite `specs/Courses.antt` (what one strand did, and how that is written down) and `specs/Closings.antt` (the tree of

@@ -17,7 +17,7 @@ map_more f old new x y rest is e =
 pub range_more : (i n : ℕ) → i < n → range_with_len i (n - i) ≡ i ∷ range_with_len (i + 1) (n - (i + 1))
 range_more i n low = let e : n - i ≡ suc (n - (i + 1)) = omega arith in ap (range_with_len i) e
 
--- one more of n transfers, of which i were drawn
+-- one more of n transfers, after i were drawn
 pub transfers_more : (i n s : ℕ) → i < n → transfers (n - i) s ≡ transfer_from s ∷ transfers (n - (i + 1)) (after_transfer s)
 transfers_more i n s low = let e : n - i ≡ suc (n - (i + 1)) = omega arith in ap (λ k. transfers k s) e
 

@@ -39,7 +39,7 @@ module _ (n : ℕ) where
   abbrev function : ℕ → Declaration
   function k = group_function k (group k (transfers n n))
 
-  -- groups from a on, so many
+  -- the functions of `len` groups, from group a on
   abbrev functions : ℕ → ℕ → List Declaration
   functions a len = map function (range_with_len a len)
 

@@ -1,4 +1,4 @@
-//! The program of a load: a large valid input, made from a number. Use it to measure or to try a run without a source.
+//! The program of a load: a large valid input, made from a number. Use it to measure a run, or to try one without a source.
 //! Contracts cite `specs/Load.antt` (the tree of a load) and `specs/Worked.antt` (what small loads draw, and how they are grouped).
 #![tactic(auto)]
 

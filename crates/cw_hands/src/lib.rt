@@ -1,7 +1,7 @@
 //! Several hands: laws on runs of the open machine and of the tier together, in which strands step in turn. No code here runs.
 //! Use them for a runtime in which several strands share a tier.
-//! Contracts cite `specs/Shared.antt` (moments, who may go on, the steps and what each needs, runs) and `specs/Laws.antt` (what is
-//! true of them). `specs/Worked.antt` tries them.
+//! Contracts cite `specs/Shared.antt` (moments, which strands may go on, the steps, what each step needs, and runs) and
+//! `specs/Laws.antt` (what is true of all runs). `specs/Worked.antt` tries them.
 #![tactic(auto)]
 
 ghost use Rattle.cw_hands.specs.Laws.{MachinesRun, MergedGoOn, OnlyReadyGoOn, OrderFollows, OrderIsKept, OthersLeaveReady, ReadyDiffer, ReadyGoOn, ReadyStay, TiersRun, TiersStand, TogetherAtAnyTime};

@@ -1,4 +1,4 @@
--- What was told to be held, after one thing was taken after another.
+-- What a sink tells after it took one thing, and then another.
 use Rattle.std.proofs.Common.{ℕ, ◌+◌, List, ◌++◌, take, drop, Option, Some, None, ◌∙◌, ap, append_assoc, arith, subst}
 use Rattle.std.proofs.Math.Seq.{take-add}
 use Rattle.cw_io.specs.Outside.{Appends, KeepsTelling}
@@ -14,7 +14,7 @@ Appends-append (Some u) (Some v) (Some w) xs ys p q = q ∙ ap (λ x. x ++ ys) p
 pub Appends-take : (a b c : Option (List ℕ)) (text : List ℕ) (n m : ℕ) → Appends a b (take n text) → Appends b c (take m (drop n text)) → Appends a c (take (n + m) text)
 Appends-take a b c text n m p q = rw take-add (Appends-append a b c (take n text) (take m (drop n text)) p q)
 
--- what is told still for a number of bytes, and then for more of them
+-- a sink that goes on telling for n bytes, and then for m more, goes on telling for both together
 pub KeepsTelling-add : {S : Type 0} (tells : S → ℕ → Type 0) (written : S → Option (List ℕ)) (a b c : S) (n m : ℕ) → KeepsTelling (tells a) (tells b) (written a) (written b) n → KeepsTelling (tells b) (tells c) (written b) (written c) m → KeepsTelling (tells a) (tells c) (written a) (written c) (n + m)
 KeepsTelling-add tells written a b c n m p q rest says =
     let (first, more) = p (m + rest) (subst (tells a) (omega arith) says) in

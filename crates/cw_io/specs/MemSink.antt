@@ -13,7 +13,7 @@ pub record Stock : Type 0 where
 abbrev pub empty_stock : ℕ → Stock
 empty_stock room = record { written = Some []; room = room }
 
--- what is told within the room after bytes were taken too
+-- what a sink with this room tells after it took more bytes
 abbrev pub told_within : (room : ℕ) → Option (List ℕ) → (bytes : List ℕ) → Option (List ℕ)
 told_within room None bytes = None
 told_within room (Some held) bytes = if nat_le (length held + length bytes) room then Some (held ++ bytes) else None
@@ -22,7 +22,7 @@ told_within room (Some held) bytes = if nat_le (length held + length bytes) room
 abbrev pub stock_after : Stock → List ℕ → Stock
 stock_after s bytes = record s { written = told_within s.room s.written bytes }
 
--- the bytes that are told
+-- the bytes that the stock tells; none if it tells nothing
 abbrev pub told_bytes : Stock → List ℕ
 told_bytes s = unwrap_or s.written []
 

@@ -1,6 +1,6 @@
 //! The outside as the program sees it: where bytes come from, where they go, where a test may hold a worker, and which
-//! workers a simulation moves first, listed or drawn. Use it to read a source, to write to a sink, and for both in
-//! memory, with calls that fail.
+//! workers a simulation moves first, listed or drawn. Use it to read a source and to write to a sink. It also has sources
+//! and sinks in memory, whose calls fail as a plan says.
 //! Contracts cite `specs/Outside.antt` (what a source gives, what a sink takes, when either may fail). Those of sources
 //! and sinks in memory cite `specs/MemSource.antt`, `specs/MemSink.antt` and `specs/FaultPlan.antt` (the calls that
 //! fail), those of the generator `specs/Lcg.antt`.

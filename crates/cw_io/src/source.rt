@@ -16,8 +16,8 @@ pub trait Source {
     /// How many reads gave no byte: at the end, into an empty buffer, or by a failure.
     ghost ends: { Self → ℕ };
 
-    /// Puts the next bytes at the front of `buf` and returns how many. 0 for a buffer that is not empty means the end
-    /// of the input. After `Failed`, all that was to come is still to come.
+    /// Puts the next bytes at the front of `buf` and returns how many. 0 for a buffer that is not empty means the
+    /// end of the input. After `Failed`, all that was to come is still to come.
     fn read(&mut self, buf: &mut [u8]) -> Result<usize, Failed>
         ensures cause { CountsFaults (faults self.old) (faults self.new) result }
         ensures ends { CountsEnds (ends self.old) (ends self.new) result }

@@ -1,5 +1,5 @@
-//! What is run, a program with its words and its limits, and its strands in memory, each at its want. Use it to start
-//! the strands of a program and to move them.
+//! What is run: a program with its words and its limits. Also its strands in memory, each at what it wants next. Use it
+//! to start the strands of a program and to move them.
 //! Contracts cite `specs/Jobs.antt` (what is run), `specs/Memory.antt` (what memory holds), `specs/Room/Strands.antt`
 //! (the strands of a job, which all other code knows by their law alone) and `specs/Room/Saves.antt` (the begins that
 //! they may go back to).

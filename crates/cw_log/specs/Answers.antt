@@ -28,7 +28,7 @@ abbrev pub Meets : (before after : Token) → (cell : ℕ) → Option ℤ → Ac
 Meets x y c w (Value v) = IsWritten w v × ((stamp : ℕ) × (y ≡ made x (kind_of_answer c w v) stamp))
 Meets x y c w (Conflict k) = (k.cell ≡ c) × (k.asker ≡ length x.own.nodes) × IsAround x k.victim × (y ≡ refused x k)
 
--- Either two tokens, of which the left one goes on with the log, or one token in the left strand.
+-- Either two tokens, and the left one goes on with the log, or one token in the left strand.
 abbrev pub Forks : {T : Type 0} → (T → Token) → Token → Forked T → Type 0
 Forks of x (Two fork left right) = (0 < fork) × ((stamp : ℕ) × (of left ≡ forked x stamp fork)) × ((column : ℕ) × (of right ≡ right_of x fork column))
 Forks of x (Inline token) = (stamp : ℕ) × (of token ≡ branched x stamp)

@@ -144,7 +144,7 @@ conflicts_in (l ∷ ls) = l.conflicts ++ conflicts_in ls
 abbrev pub Fells : Token → Conflict → Type 0
 Fells x c = Contains x.around c.victim
 
--- it neither halted nor was told of a halt, and no conflict in its logs is from the last attempt
+-- it neither halted nor learnt of a halt, and no conflict in its logs is from the last attempt
 pub record IsOn (budget : ℕ) (x : Token) : Type 0 where
   pub stop : x.stop ≡ None
   pub told : x.told ≡ false
@@ -168,7 +168,7 @@ pub record GoesBack (budget : ℕ) (x : Token) : Type 0 where
 abbrev pub HasBlock : Token → Type 0
 HasBlock x = x.place ≡ x.strand → ⊥
 
--- it halted, or was told that some token has
+-- it halted, or has learnt that some token has
 abbrev pub IsOff : Token → Type 0
 IsOff x = (x.stop ≡ None → ⊥) ⊎ (x.told ≡ true)
 

@@ -62,6 +62,6 @@ pub struct Token {
     pub split: bool,
     pub phase: Phase,
     pub stop: Option<Stop>,
-    /// Whether it was told that some token has halted.
+    /// Whether it has learnt that some token has halted.
     pub told: bool,
 }

@@ -27,7 +27,7 @@ pub record IsEntryAt (t : List Node) (v : ℤ) (s : ℕ) (e : Entry) : Type 0 wh
   pub value : e.value ≡ unwrap_or (written t (access_at t s)) v
   pub old : e.old ≡ v
 
--- the entries of a list of accesses, of which the first met value v
+-- the entries of a list of accesses, the first of which met value v
 abbrev pub AreEntriesAt : List Node → ℤ → List ℕ → List Entry → Type 0
 AreEntriesAt t v [] [] = Unit {0}
 AreEntriesAt t v [] (e ∷ es) = ⊥

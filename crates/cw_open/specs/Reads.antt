@@ -6,7 +6,7 @@ use Rattle.cw_tree.specs.AccessStacks.{access_at}
 use Rattle.cw_open.specs.Machine.{live}
 use Rattle.cw_open.specs.Laws.{OfEachWithNewest}
 
--- each read among accesses, of which the first met value v, has what it met
+-- each read among these accesses has what it met; the first access met value v
 abbrev pub AreRead : List Node → ℤ → List ℕ → Type 0
 AreRead t v [] = Unit {0}
 AreRead t v (u ∷ us) = ((w : ℤ) → read t u ≡ Some w → w ≡ v) × AreRead t (unwrap_or (written t u) v) us

@@ -41,7 +41,7 @@ pub data Step : Type 0 where
   joins : (fork : ℕ) → Step
   stops : (strand : ℕ) → Step
 
--- adds nodes, of which the first has the stamp
+-- adds nodes, the first with the stamp
 abbrev pub adds : OpenMachine → List Node → ℕ → OpenMachine
 adds m xs stamp = record m { tree = m.tree ++ xs; clock = max m.clock stamp }
 

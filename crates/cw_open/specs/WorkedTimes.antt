@@ -1,6 +1,6 @@
--- Small runs that are told and in time though a step comes late: an access is refused for a block that has ended by
--- then, and a block begins with a stamp that was drawn before others. Each is a history. Each has a sibling, with one
--- output more, to which no such run leads.
+-- Small runs in time, whose conflicts tell what was met, though a step comes late: an access is refused for a block that
+-- has ended by then, and a block begins with a stamp that was drawn before others. Each is a history. Each has a
+-- sibling, with one output more, to which no such run leads.
 use Rattle.std.specs.Prelude.{◌≡◌, ℕ, ℤ, List, [], ◌∷◌, ◌++◌, Option, Some, None, true, false, pos}
 use Rattle.cw_tree.specs.declared.node.Node.{Node}
 use Rattle.cw_tree.specs.declared.node.Kind.TheVariants.{Strand, Fork, Read, Write, Out, Tried}

@@ -1,13 +1,14 @@
 //! The open machine: what strands that run at the same time do to a computation tree, the cells' live accesses and a
 //! clock. Use its laws to show that what a concurrent run leaves is coherent. No code here runs.
 //! Contracts cite `specs/Machine.antt` (the state, and where its strands are), `specs/Steps.antt` (the steps, and what
-//! each does), `specs/Runs.antt` (what each step needs, and runs), `specs/Open.antt` (nodes that are still open),
-//! `specs/Laws.antt` (what is true of every state that a run leads to), `specs/Reads.antt` (what live reads met),
-//! `specs/Times.antt` (when stamps are drawn), `specs/Refused.antt` (what is true of refused accesses),
-//! `specs/LeftFirst.antt` (runs in which each fork's left strand finishes before its right one steps: none is refused,
-//! and what is to the left of a stamp is older than it), `specs/Left.antt` (what a run leaves), `specs/Reordered.antt`
-//! (that it is true in depth-first order) and `specs/Hands.antt` (what the steps of others leave of a strand, and of
-//! what it has drawn). `specs/Worked.antt`, `specs/WorkedTimes.antt` and `specs/WorkedHands.antt` try them.
+//! each does) and `specs/Runs.antt` (what each step needs, and runs). Laws of every state that a run leads to are in
+//! `specs/Laws.antt`, `specs/Reads.antt` (what live reads met), `specs/Times.antt` (when stamps are drawn) and
+//! `specs/Refused.antt` (refused accesses), over `specs/Open.antt` (nodes that are still open).
+//! `specs/LeftFirst.antt` is about runs in which each fork's left strand finishes before its right one steps. There no
+//! access is refused, and what is to the left of a stamp is older than it.
+//! `specs/Left.antt` says what a run leaves, and `specs/Reordered.antt` that this is true in depth-first order too.
+//! `specs/Hands.antt` says what the steps of other strands leave unchanged.
+//! `specs/Worked.antt`, `specs/WorkedTimes.antt` and `specs/WorkedHands.antt` try them.
 #![tactic(auto)]
 
 ghost use Rattle.cw_open.specs.Hands.{AheadIsNext, AllowedAtAnyTime, BeneathIsOwn, ConflictsAreTold, DrawnStay, EndStampsStay, ForkersRunAgain, JoinsLeaveAlone, MetInTimeStays, MetStays, NewestStay, NextStampsStay, NoneConflictsMore, OthersLeaveAlone, PlacesPart, RunsAreInTime, RunsBegin, RunsGoOn, StrandsMayJoin, TimesAreLow};

@@ -1,4 +1,4 @@
--- Ranges of labels, of which each begins at a multiple of its size.
+-- Ranges of labels. Each begins at a multiple of its size.
 use Rattle.std.proofs.Common.{ℕ, ◌+◌, ◌-◌, ◌*◌, ◌/◌, ◌%◌, ◌^◌, ◌<◌, ◌≤◌, ◌≡◌, ◌≢◌, sym, ap, ◌∙◌, subst, arith, inl, inr}
 use Rattle.std.proofs.Math.Nat.{div-mul-le_self, mul-div-le, pow-le-pow_right}
 use Rattle.std.proofs.lemmas.Bool.{cases_lt}
@@ -21,7 +21,7 @@ above_range l m size some h ne = elim (cases_lt l ((m / size + 1) * size)) [
   | inr le ↦ omega (arith, le)
 ]
 
--- a range whose size is a power of two ends within the numbers of so many bits
+-- a range whose size is a power of two ends within the numbers of j + k bits
 pub range_within : (label k j : ℕ) → label < 2 ^ (j + k) → label / 2 ^ k * 2 ^ k + 2 ^ k ≤ 2 ^ (j + k)
 range_within label k j h = omega (arith, mul-le (label / 2 ^ k + 1) (2 ^ k) (2 ^ j) (2 ^ k) (omega (arith, shr_below label j k h)) (omega arith), pow-add 2 j k)
 

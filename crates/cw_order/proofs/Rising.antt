@@ -35,7 +35,7 @@ rise_first gap (n ∷ ns) t zero r h = omega arith
 rise_first gap (n ∷ []) t (suc k) r h = absurd (omega arith)
 rise_first gap (n ∷ m ∷ ns) t (suc k) r h = let more = rise_first gap (m ∷ ns) t k r.1 (omega arith) in omega (arith, r.0, more)
 
--- of two places in the list, the first has the smaller number
+-- the first of two places in the list has the smaller number
 pub rise_places : (gap : ℕ) (ns : List ℕ) (t i j : ℕ) → 0 < gap → Rise gap ns t → i < j → j < length ns → get_or ns i 0 < get_or ns j 0
 rise_places gap [] t i j g r h l = absurd (omega arith)
 rise_places gap (n ∷ ns) t i zero g r h l = absurd (omega arith)

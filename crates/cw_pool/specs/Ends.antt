@@ -65,7 +65,7 @@ IsBehind job of mode.Waits x right left bs b = ⊥
 -- ## The end of a run
 
 -- The logs of the root's token are what the strands of the job did, from main on: each strand once, and no others. They went to the
--- job's end, or stopped as the token's halt tells, unless the token was told of a halt that none of its logs has.
+-- job's end, or stopped as the token's halt tells, unless the token has learnt of a halt that none of its logs has.
 pub record IsWorked (job : Job) (x : Token) : Type 0 where
   pub course : Course
   pub written : map bare_log (logs x) ≡ logs_of course 0 0 0

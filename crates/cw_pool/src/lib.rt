@@ -3,7 +3,7 @@
 //! `specs/Tasks.antt` says what a task stands for (`IsRunning`): a strand that runs, with its token and its body, and what waits
 //! for it. That is the invariant of the type `Running`. Each function keeps it, and most have no other clause.
 //! Contracts cite `specs/Accesses.antt` and `specs/Blocks.antt` (what small calls return), `specs/Forks.antt` (a strand between the
-//! fork of its body and the fork on the board), `specs/Ends.antt` (when a strand may end, how the strand that forked goes on behind
+//! fork of its body and the fork on the board), `specs/Ends.antt` (when a strand may end, how the strand that forked goes on after
 //! both its strands, and what is true of the root's token at the end), `specs/Recorded.antt` (what the record of a run is) and
 //! `specs/Starts.antt` (a default job).
 #![tactic(auto)]

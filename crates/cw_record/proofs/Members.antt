@@ -28,7 +28,7 @@ pub act_no_block : (k : Kind) → is_act_kind k ≡ true → is_block_kind k ≡
 act_no_block Block e = absurd (cc e)
 act_no_block _ e = refl
 
--- of new nodes accesses, outputs and cancels are members
+-- the new nodes that are members are accesses, outputs and cancels
 pub new_member : (k : Kind) → (is_act_kind k || (is_block_kind k && is_committed_state (first_state k))) ≡ is_act_kind k
 new_member Block = refl
 new_member _ = refl

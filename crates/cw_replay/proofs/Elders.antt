@@ -22,7 +22,7 @@ module _ (is_there passes : ℕ → Bool) where
       by_member true c f = ap (prefix_len passes) (reverse-append (members is_there n) (n ∷ [])) ∙ ap (λ x. cond x (1 + run_before n) 0) f
       by_member false c f = ap (suffix_len passes) (append-nil (members is_there n))
 
-  -- one of the members right before n that pass, of which so many stand right before it
+  -- one of the members right before n that pass; k more that pass come right before it
   pub record Elder (n k : ℕ) : Type 0 where
     pub node : ℕ
     pub lower : node < n

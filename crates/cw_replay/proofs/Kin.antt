@@ -57,7 +57,7 @@ module _ (t : List Node) (r : IsRooted t) where
   pub over_parent : (q c n : ℕ) → n < length t → IsChild t q c → is_ancestor t c n ≡ true → is_ancestor t q n ≡ true
   over_parent q c n h k e = ancestor_trans t r q c n h (child_over t r q c k) e
 
-  -- of two ancestors of a node one is an ancestor of the other
+  -- if two nodes are ancestors of a node, one is an ancestor of the other
   pub either_over : (a b n : ℕ) → n < length t → is_ancestor t a n ≡ true → is_ancestor t b n ≡ true → (is_ancestor t a b ≡ true) ⊎ (is_ancestor t b a ≡ true)
   either_over a b n h e f = elim (cases_lt a b) [ inl l ↦ inl (ancestor_linear t r a b n h e f (omega arith)) | inr le ↦ inr (ancestor_linear t r b a n h f e le) ]
 

@@ -17,7 +17,7 @@ counted p n k one so_far here =
     let step : count p (suc n) ≡ k + one = count_step p n ∙ omega (arith, so_far, here) in
     sym (ap (count p) next ∙ step)
 
--- of so many nodes, no more than there are
+-- after one more node, no more are counted than there are
 pub one_more : (p : ℕ → Bool) (n k one : ℕ) → k ≡ count p n → one ≡ one_if (p n) → k + one ≤ suc n
 one_more p n k one so_far here = omega (arith, count_step p n, count_le p (suc n), so_far, here)
 

@@ -11,7 +11,7 @@ use Rattle.cw_serial.specs.DepthFirst.{beneath, leftmost}
 use Rattle.cw_serial.proofs.Deep.{meet_left, meet_right}
 use Rattle.cw_serial.proofs.Turns.{beneath_more}
 
--- the k-th fork of a strand in which so many blocks were begun
+-- the k-th fork of a strand in which `blocks` blocks are begun
 pub data Branch (A : Type 0) : Type 0 where
   on_left : (k blocks : ℕ) (right : A) → Branch A
   on_right : (k blocks forks : ℕ) (left : A) → Branch A
@@ -25,12 +25,12 @@ module _ {A : Type 0} where
   blocks_at (on_left k b r) = b
   blocks_at (on_right k b n l) = b
 
-  -- the name of the strand beneath these forks, of which the innermost is the first
+  -- the name of the strand beneath these forks, the innermost of which comes first
   abbrev pub way : List (Branch A) → List Turn
   way [] = []
   way (x ∷ c) = way c ++ turn_at x ∷ []
 
-  -- the begun blocks, where so many were begun in that strand
+  -- all begun blocks, if b of them are begun in that strand
   abbrev pub begun_in : List (Branch A) → ℕ → List Begun
   begun_in c (suc b) = record { strand = way c } ∷ begun_in c b
   begun_in [] zero = []

@@ -15,7 +15,7 @@ use Rattle.cw_serial.specs.Wants.{was_written, put_back_since}
 use Rattle.cw_serial.specs.InMemory.{undone, since_of, held_before}
 use Rattle.cw_serial.proofs.MapsInOrder.{entries_in_order}
 
--- what an element held before these writes, where it is one of so many
+-- what element c held before these writes, if it is one of the first n
 abbrev pub held_below : ℕ → List Write → ℕ → Option ℤ
 held_below n ws c = cond (nat_lt c n) (held_before ws c) None
 

@@ -61,7 +61,7 @@ module _ (job : Job) (names : List Name) (m : Machine StrandState) (n : ℕ) whe
         known = subst (λ ns. AreKnown ns now.numbers.items old.machine.strands.names.items) is.order k;
       }
 
-  -- the same machine, of which more is known
+  -- the same machine, once more is known about it
   pub looks : (old new : Play) (found : Option ℕ) → IsPlay job names old m → new.machine ≡ old.machine → Looked old new.known found → IsPlay job names new m
   looks old new found is same l = record {
     machine = subst (λ code. IsMachine job code m) (sym same) is.machine;
@@ -110,7 +110,7 @@ module _ {A : Type 0} (s : Strands A) (names : List Name) (list : List ℕ) (nam
   played_all place m past same = sym (rw (drop_of_length-le list past) at same)
 
 module _ (job : Job) (picks : Order) where
-  -- So many picks were made, and those that are left lead to the end.
+  -- The first `place` picks were made, and the remaining ones lead to the end.
   pub record Played (code : Play) (place : ℕ) : Type 0 where
     pub machine : Machine StrandState
     pub is : IsPlay job picks.names code machine

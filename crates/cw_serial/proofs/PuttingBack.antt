@@ -20,7 +20,7 @@ are_elements : (n : ℕ) (value : ℕ → ℤ) (cs : List ℕ) → All (λ c. c 
 are_elements n value [] h = tt
 are_elements n value (c ∷ cs) h = (All-head (λ d. d < n) c cs h, are_elements n value cs (All-tail (λ d. d < n) c cs h))
 
--- the memory at a block's begin has at most so many elements
+-- the memory at a block's begin has at most n elements
 abbrev pub Fits : ℕ → Since → Type 0
 Fits n x = length x.memory ≤ n
 

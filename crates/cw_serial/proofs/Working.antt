@@ -22,7 +22,7 @@ own_in [] b = b ∷ []
 own_in (on_left k n r ∷ c) b = b ∷ []
 own_in (on_right k n m l ∷ c) b = b ∷ own_in c n
 
--- the strand that is run made so many forks, and in it so many blocks are begun
+-- the strand that is run: `forks` says how many forks it made, `blocks` how many blocks are begun in it
 pub record Worker (A : Type 0) : Type 0 where
   pub memory : List ℤ
   pub outputs : List ℤ

@@ -1,7 +1,7 @@
 //! A cell as a stack of accesses: its value, and the live accesses that made it, so that the newest ones can be undone.
 //! Use it for memory whose newest accesses may have to be rolled back.
-//! Contracts see a cell by its parts (`specs/Cells.antt`). They say in the words of `cw_tree` (`specs/AccessStacks.antt` there)
-//! what calls keep of every tree. `WorkedRun` tries both on a small run.
+//! Contracts see a cell by its parts (`specs/Cells.antt`). What calls keep true of every tree is in the terms of
+//! `specs/AccessStacks.antt` of `cw_tree`. `WorkedRun` tries both on a small run.
 #![tactic(auto)]
 
 ghost use Rattle.cw_stack.specs.WorkedRun.{AllAgree, Waits};

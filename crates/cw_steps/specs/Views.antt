@@ -138,7 +138,7 @@ IsLowCell most (slot.Cell x) = All (λ (e : Entry). e.mark.stamp ≤ most) x.ent
 IsLowCell most (slot.Tier x) = ⊥
 IsLowCell most slot.Empty = ⊥
 
--- a tier with room for `limit` columns, of which `used` are in use
+-- a tier with room for `limit` columns, `used` of them in use
 abbrev pub IsTierOf : (limit used : ℕ) → Slot → Type 0
 IsTierOf limit used (slot.Tier x) = (x.columns.room ≡ limit) × (columns.used x.columns ≡ used)
 IsTierOf limit used (slot.Cell x) = ⊥

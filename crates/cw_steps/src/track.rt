@@ -49,8 +49,8 @@ pub struct Ahead {
     pub gap: u32,
 }
 
-/// What a right strand begins with: the nodes of its log, room for the pending blocks around it, and room for its log in the list
-/// of the token that takes it in.
+/// What a right strand begins with: the nodes of its log, room for the pending blocks around it, and room for its log in
+/// the list of the token that takes it in.
 #[derive(Drop)]
 pub(crate) struct Spare {
     pub(crate) nodes: Vec<Node>,

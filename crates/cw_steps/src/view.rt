@@ -30,8 +30,8 @@ pub struct Placed {
     pub under: u64,
 }
 
-/// The log of one strand: its column, the position of its fork, and its nodes and conflicts, whose parents and askers are numbers
-/// of this log. Ghost state, never constructed at run time.
+/// The log of one strand: its column, the position of its fork, and its nodes and conflicts. Parents and askers are numbers in this
+/// log. Ghost state, never constructed at run time.
 pub struct Logged {
     pub column: u64,
     pub from: u64,

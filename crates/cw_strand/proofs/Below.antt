@@ -32,7 +32,7 @@ use Rattle.cw_strand.proofs.Settling.{stand_holds}
 
 -- ## Scopes
 
--- one scope stands on these, and on it so many more
+-- one scope is on top of `below`, and n more are on that
 data Over (below : List ℕ) : ℕ → List ℕ → Type 0 where
   last : {m : ℕ} → Over below 0 (m ∷ below)
   more : {n m : ℕ} {ns : List ℕ} → Over below n ns → Over below (suc n) (m ∷ ns)
@@ -66,7 +66,7 @@ over_end (more {m = m} h) = let e = over_end h in (e.0, end_behind m e.1)
 -- ## Blocks at a place
 
 module _ (code : Code) where
-  -- at a place of a function of the code so many of its blocks are open
+  -- at place p of a function of the code, n of its blocks are open
   record BlocksAt (p n : ℕ) : Type 0 where
     func : Func
     declared : Contains code.funcs func
@@ -144,8 +144,8 @@ module _ (code : Code) where
 -- ## Functions above the begin
 
 module _ (code : Code) (ok : faults code ≡ []) (start : State) (deep : ℕ) (some : 0 < deep) (below : List ℕ) (around : 0 < length below) where
-  -- The current function, at this place with these locals, is that of the block, or one that was called from there; these wait for it, with
-  -- these scopes; and so many blocks are begun inside the block. At the begin so many blocks of its function were open.
+  -- The current function, at this place with these locals, is that of the block, or one that it led to by calls. These callers wait for it,
+  -- with these scopes, and n blocks are begun inside the block. At its begin, `deep` blocks of its function were open.
   data Above : ℕ → List ℤ → List Frame → List ℕ → ℕ → Type 0 where
     own : {p n : ℕ} {ls : List ℤ} {fs : List Frame} {ns : List ℕ} → BlocksAt code p (n + deep) → length ls ≡ length start.current.locals → fs ≡ start.callers → Over below n ns → Above p ls fs ns n
     called : {p n j k : ℕ} {ls : List ℤ} {f : Frame} {fs : List Frame} {ns ms : List ℕ} → BlocksAt code p j → Above f.place f.locals fs ms k → Over ms j ns → n ≡ j + k → Above p ls (f ∷ fs) ns n
@@ -204,7 +204,7 @@ module _ (code : Code) (ok : faults code ≡ []) (start : State) (deep : ℕ) (s
 
   -- ## Steps
 
-  -- so many blocks are begun inside
+  -- n blocks are begun inside
   abbrev Holds : ℕ → State → Type 0
   Holds n s = Above s.current.place s.current.locals s.callers s.scopes n × (s.limits ≡ start.limits)
 
@@ -212,7 +212,7 @@ module _ (code : Code) (ok : faults code ≡ []) (start : State) (deep : ℕ) (s
   abbrev HoldsMore : ℕ → State → Type 0
   HoldsMore n s = (m : ℕ) × ((n ≤ m) × Holds m s)
 
-  -- so many at least once the want is answered, unless that ends the block
+  -- as many as the answer to the want leaves, or more, unless it ends the block
   abbrev HoldsAt : ℕ → Want → State → Type 0
   HoldsAt n w s = StaysIn w n → HoldsMore (inner_after w n) s
 

@@ -78,7 +78,7 @@ module _ (ds : List Declaration) (code : List Instr) where
     pub stands : HasAt code p (statement_code (cells_of ds) (function_names ds) g p ending (repeat e b))
 
   mutual
-    -- The code at a place does these tasks, with so many locals of which these are visible, so many operands, and these callers.
+    -- The code at a place does these tasks, given the number of locals and which are visible, the number of operands, and the callers.
     pub data Does : ℕ → Slots → ℕ → List Task → ℕ → List Frame → Type 0 where
       does_value : {n h p : ℕ} {g : Slots} {e : Term} {k : List Task} {fs : List Frame} → in_term (scope_of ds g) e ≡ None → HasAt code p (term_code (cells_of ds) (function_names ds) g e) → Does n g (suc h) k (p + length (term_code (cells_of ds) (function_names ds) g e)) fs → Does n g h (value e ∷ k) p fs
       does_lift : {n h p : ℕ} {g : Slots} {o : Operator} {k : List Task} {fs : List Frame} → effect_at (operator_number o) ≡ Some (effect.Lift o) → slice_get code p ≡ Some (plain (operator_number o)) → Does n g (suc h) k (p + 1) fs → Does n g (suc h) (lift o ∷ k) p fs

@@ -37,8 +37,8 @@ abbrev pub forks_in : List Open → List ℕ
 forks_in [] = []
 forks_in (opened i n ∷ os) = n ∷ forks_in os
 
--- For so many blocks the strand has these scopes: one for each of its own and for each function that it called, and then those of the strand
--- that forked, with a fork more to wait for in the innermost one.
+-- These are the scopes for these numbers of blocks: one scope for each block of the strand's own and for each function that it called, then
+-- those of the strand that forked, with one more fork to wait for in the innermost one.
 pub data Scoped : List ℕ → List Open → Type 0 where
   outermost : {i : Around} → Scoped (0 ∷ []) (opened i 0 ∷ [])
   behind : {b n : ℕ} {i : Around} {bs : List ℕ} {os : List Open} → Scoped (b ∷ bs) (opened i n ∷ os) → Scoped (0 ∷ b ∷ bs) (opened i (suc n) ∷ os)
@@ -70,11 +70,11 @@ module _ (ds : List Declaration) (limits : Limits) where
   abbrev MayDo : List (List ℕ) → Around → Block → Type 0
   MayDo names i b = in_block (with_names names (globals ds)) i b ≡ None
 
-  -- the name of a function with so many parameters
+  -- the name n is that of a function with c parameters
   abbrev MayCall : List (List ℕ) → List ℕ → ℕ → Type 0
   MayCall names n c = (line : ℕ) × (call_fault (find n (with_names names (globals ds))) c line ≡ None)
 
-  -- These tasks, begun with so many operands where the locals have these names, find their operands one after another, use only
+  -- These tasks, begun with this number of operands while the locals have these names, find their operands one after another, use only
   -- names that they may use, and end these scopes one after another. After a block the locals that it made are there, until they
   -- are forgotten, and its scope may have any number of forks to wait for.
   abbrev mutual
@@ -126,7 +126,7 @@ module _ (ds : List Declaration) (limits : Limits) where
   abbrev FitsBehind : Around → List Task → List (List ℕ) → ℕ → List Open → Type 0
   FitsBehind i k names m os = Fits k 0 names (opened i m ∷ os) × (i ≡ around.Atomic → Closes k names os)
 
-  -- the state has so many blocks to end, and its tasks fit
+  -- the state has these numbers of blocks to end, and its tasks fit
   pub record IsFit (own : List ℕ) (s : State) : Type 0 where
     pub open_scopes : List Open
     pub counted : s.scopes ≡ forks_in open_scopes
@@ -150,7 +150,7 @@ module _ (ds : List Declaration) (limits : Limits) where
   Goes own (wants w t) = MayWant w own × FitAfter w own t
   Goes own stuck = ⊥
 
-  -- of two steps, each of which leads to such a state
+  -- a choice between two steps leads to such a state if each of them does
   either : (own : List ℕ) (b : Bool) (x y : Step) → Goes own x → Goes own y → Goes own (cond b x y)
   either own true x y h g = h
   either own false x y h g = g

@@ -37,7 +37,7 @@ lowest_reversed n xs enough =
     let parts : reverse xs ≡ reverse (drop n xs) ++ reverse (take n xs) = ap reverse (sym (take-append-drop n xs)) ∙ reverse-append (take n xs) (drop n xs) in
     lowest_end n (reverse xs) (reverse (take n xs)) (length-reverse (take n xs) ∙ length-take-le n xs enough) (reverse (drop n xs), parts)
 
--- the oldest so many are kept, and on them comes another one
+-- the oldest n are kept, and another one comes on top of them
 pub reopened : (xs : List ℕ) (n x : ℕ) → n < length (reverse xs) → reverse (take (n + 1) (slice_set xs n x)) ≡ x ∷ lowest n (reverse xs)
 reopened xs n x less =
     ap (λ m. reverse (take m (slice_set xs n x))) (add-one n)

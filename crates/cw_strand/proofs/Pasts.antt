@@ -1,5 +1,5 @@
--- Laws of strands that want the same: what can be over the one can be over the other, and what a strand of the one has come to, a strand
--- of the other has come to by the same past.
+-- Laws of strands that want the same: whatever can be over one can be over the other, and what a strand of one has come to, a strand of
+-- the other has come to by the same past.
 use Rattle.std.proofs.Common.{◌≡◌, ◌∙◌, ℕ, List, refl, sym, ap, subst}
 use Rattle.cw_strand.specs.declared.want.Given.{Given}
 use Rattle.cw_strand.specs.declared.want.Want.{Want}

@@ -110,7 +110,7 @@ module _ (ds : List Declaration) (words : List ℤ) (limits : Limits) where
 
   -- ## What both have
 
-  -- with so many locals, of which these are visible, and these callers
+  -- both have n locals, g says which are visible, and fs are the callers
   pub record Shared (g : Slots) (n : ℕ) (fs : List Frame) : Type 0 where
     pub locals : Locals
     pub numbers : List ℤ

@@ -106,7 +106,7 @@ eq_turned a b = by (bytes_eq a b) (bytes_eq b a) (bytes_eq-Decides a b) (bytes_e
     by true false d e = let no : false ≡ true = e.1 (sym (d.0 refl)) in cc
     by false true d e = let no : false ≡ true = d.1 (sym (e.0 refl)) in cc
 
--- there is a function of this name, with so many parameters
+-- there is a function with the name n and `takes` parameters
 pub record IsFunction (ds : List Declaration) (n : List ℕ) (takes : ℕ) : Type 0 where
   pub function : Function
   pub found : function_of ds n ≡ Some function

@@ -44,7 +44,7 @@ takes_answer Done = false
 takes_answer (Fault k) = false
 takes_answer w = true
 
--- what is to be written back names elements of the cells, of which there are n
+-- what is to be written back names elements below n, the number of elements of all cells
 abbrev pub AreElements : ℕ → List Back → Type 0
 AreElements n [] = Unit {0}
 AreElements n (b ∷ bs) = (b.cell < n) × AreElements n bs

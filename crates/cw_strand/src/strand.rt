@@ -49,7 +49,7 @@ pub struct Strand {
     size: u64,
     /// Where the left strand of the newest fork begins.
     beside: usize,
-    /// What the strand was told to write back, and how much of it is written.
+    /// What the strand has to write back, and how much of it is written.
     back: Seq<Back>,
     written: usize,
     limits: Limits,

@@ -23,7 +23,7 @@ IsPlain (read_from l) = ⊥
 IsPlain (brackets l) = ⊥
 IsPlain s = Unit {0}
 
--- the same symbol but for its line, and for the lines in what it makes
+-- the same symbol, except for its line, and for the lines in what it makes
 data Alike : Symbol → Symbol → Type 0 where
   plain : {s : Symbol} → IsPlain s → Alike s s
   makes : {f h : Values → Values} → Forgets f h → Alike (act f) (act h)
@@ -271,7 +271,7 @@ remembered_in (Ok vs) (Err f) ds h is = cc
 remembered_in (Err e) (Ok ws) ds h is = absurd h
 remembered_in (Err e) (Err f) ds h is = cc
 
--- Tokens that are the same but for their lines are read as trees that are.
+-- Tokens that are the same except for their lines are read as trees that are.
 pub same_but_lines : (xs ys : Lexemes) (ds : List Declaration) → tokens_without_lines xs ≡ tokens_without_lines ys → program_of xs ≡ Ok ds →
     (es : List Declaration) × (program_of ys ≡ Ok es) × (tree_without_lines es ≡ tree_without_lines ds)
 same_but_lines xs ys ds same is =

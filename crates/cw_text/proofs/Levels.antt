@@ -24,7 +24,7 @@ leaves (suc zero) k = sums ∷ k
 leaves (suc (suc zero)) k = products ∷ k
 leaves (suc (suc (suc n))) k = k
 
--- with room for so many more open, these lexemes are read as an expression with others behind it
+-- with room for `more` more open, these lexemes are read as an expression with others behind it
 pub record Reads (more n : ℕ) (e : Term) (xs ys : Lexemes) : Type 0 where
   pub reading : (k : List Symbol) (vs : Values) → pending k + more ≤ 200 → read (begins n k) vs xs ≡ read (leaves n k) (a_term e ∷ vs) ys
 

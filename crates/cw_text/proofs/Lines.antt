@@ -1,4 +1,4 @@
--- Of the lines of tokens, only those of names, of `cancel` and of `return` have a part in what is read.
+-- Only the lines of names, of `cancel` and of `return` have a part in what is read.
 use Rattle.std.proofs.Common.{◌≡◌, ℕ, zero, ◌+◌, nat_lt, cond, Bool, true, false, List, [], ◌∷◌, ◌++◌, Option, Some, None, Result, Ok, Err, refl, ap, sym, ◌∙◌}
 use Rattle.cw_text.specs.declared.fault.TextFault.{TextFault}
 use Rattle.cw_text.specs.declared.terminal.Terminal.TheVariants as m

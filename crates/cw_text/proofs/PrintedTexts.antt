@@ -1,4 +1,4 @@
--- Whole texts: what a tree is printed as is read as that tree, but for its lines, and printed as itself again.
+-- Whole texts: what a tree is printed as is read as that tree, except for its lines, and printed as itself again.
 use Rattle.std.proofs.Common.{◌≡◌, ℕ, zero, suc, ◌≤◌, nat_le, lit<, subst, arith, Bool, true, false, nat_lt, List, [], ◌∷◌, ◌++◌, length, map, Ok, refl, ap, sym, ◌∙◌}
 use Rattle.std.proofs.lemmas.Bool.{le-leb}
 use Rattle.std.specs.List.{flat_map}
@@ -20,7 +20,7 @@ use Rattle.cw_text.proofs.Scanned.{heading_scanned, scanned, scanned_from, text_
 use Rattle.cw_text.proofs.Spellable.{joined as both_spellable}
 use Rattle.cw_text.proofs.WrittenIsRead.{written_is_read}
 
--- the items of a text whose items are these tokens, but for their lines
+-- the items of a text whose tokens are those of the printed items, except for their lines
 items_read : (n : ℕ) (xs : Lexemes) (ds : List Declaration) → IsReadable ds → tokens_without_lines xs ≡ tokens_without_lines (printed ds) →
     IsSourceReadAs (with_language n (program_of xs)) (record { language = n; items = ds })
 items_read n xs ds readable same =
@@ -95,7 +95,7 @@ text_undone newest text s some known is short =
 
 -- ## Lines are not printed
 
--- the same tokens but for their lines
+-- the same tokens, except for their lines
 data Same : List Placed → List Placed → Type 0 where
   nil : Same [] []
   next : {t : Token} {i l : ℕ} {ps qs : List Placed} → Same ps qs → Same ((t, i) ∷ ps) ((t, l) ∷ qs)

@@ -55,7 +55,7 @@ abbrev HasDeclared : (List Declaration → Type 0) → Values → Type 0
 HasDeclared P (declared ds ∷ []) = P ds
 HasDeclared P vs = ⊥
 
--- Of an operand that was read from some token on, this is so, and it goes on with what is so of all that begins there.
+-- The operand was read from some token on, and First is true of it. P goes on with whatever begins at that token and has All.
 abbrev GoesOn : (First All : Term → Lexemes → Lexemes → Type 0) → (Values → Lexemes → Type 0) → Values → Lexemes → Type 0
 GoesOn First All P vs xs = HasTerm (λ e us. (start : Lexemes) × First e start xs × ((f : Term) (ys : Lexemes) → All f start ys → P (a_term f ∷ us) ys)) vs
 

@@ -7,7 +7,7 @@ use Rattle.cw_text.specs.declared.ast.Word.{Word}
 use Rattle.cw_text.specs.Syntax.{Term, Terms, number, name, at, call, unary, binary, none, more, height}
 use Rattle.cw_text.specs.Printed.{AreReadableTerms, most_open, tightness, of_left, of_right, IsWellFormed, IsReadableTerm}
 
--- an expression that can be read where so much tightness is wanted, inside so many brackets
+-- an expression that can be read where tightness n is wanted, inside `around` brackets
 pub record IsReadableAt (n around : ℕ) (e : Term) : Type 0 where
   pub formed : IsWellFormed e
   pub low : height e ≤ 200

@@ -1,4 +1,4 @@
--- The text of tokens is read as these tokens, but for their lines.
+-- The text of tokens is read as these tokens, except for their lines.
 use Rattle.std.proofs.Common.{◌≡◌, ℕ, ◌+◌, ◌^◌, ◌<◌, Bool, true, false, List, [], ◌∷◌, ◌++◌, length, take, codes, ◌==◌, refl, ap, ◌∙◌, arith, lit<, rules}
 use Rattle.std.proofs.Math.Seq.{drop-append_seam}
 use Rattle.std.proofs.lemmas.Bool.Decides.{nat_tests}

@@ -147,7 +147,7 @@ mutual
 
 -- ## Statements
 
--- where so many are open, these lexemes are read as an expression with others behind it
+-- with `around` open, these lexemes are read as an expression with others behind it
 expr_all : {around : ℕ} {e : Term} {xs ys : Lexemes} (k : List Symbol) (vs : Values) → w.IsExpr around e xs ys → around ≡ pending k → Ends 0 ys → pending k ≤ 200 → read (expr ∷ k) vs xs ≡ read k (a_term e ∷ vs) ys
 expr_all {xs = xs} k vs h same ends low = let whole = expr_read h ends in read-expr k vs xs ∙ whole.reading k vs (omega arith)
 

@@ -217,7 +217,7 @@ impl<'a> Parser<'a> {
         })
     }
 
-    /// Reads an expression in brackets, of which the opening one is next and `close` is the closing one.
+    /// Reads an expression in brackets: the opening one comes next, and `close` is the closing one.
     #[cycle(expression)]
     #[tactic(auto, using(crate::proofs::Steps::steps))]
     pub(crate) fn bracketed(&mut self, close: Terminal) -> Result<Measured, TextRefusal>

@@ -1,8 +1,8 @@
 //! Texts of programs: the syntax tree, the reader that makes it from a text, and the printer that makes a text of it.
-//! A program is cells, plain ones and arrays, and functions, with the statements `let`, assignment, call, `out`, `if`,
-//! `while`, `atomic`, `spawn`, `sync` and `return`, and in language 2 `cancel`.
-//! Contracts cite `specs/Text.antt` (what a whole text reads as), which is over `specs/Lexemes.antt` (tokens),
-//! `specs/Grammar.antt` (which tokens are a program, otherwise their first fault) and `specs/Syntax.antt` (the tree
+//! A program has cells, plain ones and arrays, and functions. Its statements are `let`, assignment, call, `out`, `if`,
+//! `while`, `atomic`, `spawn`, `sync` and `return`, and in language 2 also `cancel`.
+//! Contracts cite `specs/Text.antt` (what a whole text reads as). It is based on `specs/Lexemes.antt` (tokens),
+//! `specs/Grammar.antt` (the program that tokens are, or their first fault) and `specs/Syntax.antt` (the tree
 //! without its places in memory). They also cite `specs/Written.antt` (the grammar, one alternative at a time),
 //! `specs/Places.antt` (the bytes of each token), `specs/Printed.antt` (the tokens of a tree), `specs/PrintedText.antt`
 //! (the text of a tree), `specs/WithoutLines.antt` (the same tree except for its lines) and `specs/Cancels.antt`

@@ -28,7 +28,7 @@ module _ (co : Command) (left : Option (List ℕ)) (p : Program) (its : IsItsPro
         numbered = numbered;
       }
 
--- what so many workers on threads did
+-- what this number of workers on threads did
 pub of_threads : (workers : ℕ) (kept : Result Record OutOfMemory) → (workers ≡ 1 → IfOk kept IsOfOneWorker) → (workers ≢ 1 → IfOk kept IsOfBoard) → IfOk kept (λ r. r.end ≢ Moves) → IfOk kept (IsOfThreads workers)
 of_threads workers (Err e) one several moves = tt
 of_threads workers (Ok r) one several moves = record { one = one; several = several; moves = moves }

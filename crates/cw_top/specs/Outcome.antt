@@ -37,8 +37,8 @@ IsStatus kept status (note.Name f) = (kept ≡ None) × (status ≡ 5)
 
 -- ## The statuses that may come, and their causes
 
--- Why a run of these words, of a source in this language at the newest, ends with this note. Each fault has its cause; running out
--- of memory needs none.
+-- Why a run of these words, of a source in this language at the newest, ends with this note. Each fault has its cause;
+-- running out of memory needs none.
 abbrev pub IsCauseOfRun : (language : ℕ) → List ℤ → Note → (left : Option (List ℕ)) (read_failed write_failed : Type 0) → Type 0
 IsCauseOfRun language words note.Nothing left read_failed write_failed = Unit {0}
 IsCauseOfRun language words note.Usage left read_failed write_failed = IfSome left (IsMisfit language words)

@@ -76,7 +76,7 @@ abbrev pub text_owed : (text : Record → List ℕ) → Option Record → (statu
 text_owed text None status = None
 text_owed text (Some r) status = if status == 8 then None else Some (text r)
 
--- The owed text was written, or a front of it if the write failed. If none is owed, nothing was written.
+-- The owed text was written, or a front of it if the write failed. If no text is owed, nothing was written.
 abbrev pub Writes : (owed : Option (List ℕ)) → Note → (old new : Option (List ℕ)) → Type 0
 Writes None n old new = Appends old new []
 Writes (Some text) note.Write old new = AppendsFront old new text

@@ -99,8 +99,8 @@ fork_in (Some x) = x
 abbrev pub outer : ColumnTable → ℕ → Option ℕ
 outer c i = fork_in (slice_get c.outers i)
 
--- the fork outward of a fork that the strand of column i makes: for a left strand its own fork, for a right strand the fork outward
--- of its own fork; there is none if its own fork is split
+-- the fork outward of a fork that the strand of column i makes: for a left strand its own fork, for a right strand the fork
+-- outward of its own fork; there is none if its own fork is split
 abbrev pub outer_at : ColumnTable → ℕ → Option ℕ
 outer_at c zero = None
 outer_at c (suc n) = if is_trace c (suc n) then None else if suc n % 2 == 1 then Some (suc n) else outer c n

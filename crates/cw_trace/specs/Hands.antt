@@ -100,7 +100,7 @@ abbrev pub NoLoadDecides : Type 0
 NoLoadDecides =
     (c : ColumnTable) (first second words : List ℕ) (last : Mark) (asker : ℕ) → lead c (owner c last.strand) ≡ None → loads_second c first last asker ≡ false → TellsOfTree c words last asker (verdict_between c first second last asker)
 
--- each answer that was told is what the columns, and the gap words of some moment, hold
+-- each answer is what the columns, and the gap words of some moment, hold
 abbrev pub IsToldOf : ColumnTable → (words : ℕ → List ℕ) → (told : Read → Answer → Type 0) → Type 0
 IsToldOf c words told = (r : Read) (a : Answer) → told r a → (n : ℕ) × HoldsRead c (words n) r a
 

@@ -19,7 +19,7 @@ pub data Answer : Type 0 where
   Maybe : Option ℕ → Answer
   Test : Bool → Answer
 
--- what was told before is still told later
+-- each answer from before is still an answer later
 abbrev pub Stays : (Read → Answer → Type 0) → (Read → Answer → Type 0) → Type 0
 Stays told later = (r : Read) (a : Answer) → told r a → later r a
 

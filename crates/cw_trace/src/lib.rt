@@ -2,8 +2,8 @@
 //! traces. It cuts a trace at a stolen fork, and puts the parts together again.
 //! Use it with `cw_xconf` to tell from a few words whether an access conflicts.
 //! Contracts cite `specs/Columns.antt` (what calls make of the columns), `Traces` (what a caller sees) and `Laws` (what calls
-//! keep). `Keeps`, `Segments` and `Stands` say when a tier represents a tree, `Running` which nodes are open, `Outward` which fork
-//! bars a split. `Runs` and `OrderedRuns` are about whole runs, `Hands` about the steps of other strands.
+//! keep). `Keeps`, `Segments` and `Stands` say when a tier represents a tree. `Running` says which nodes are open, and `Outward`
+//! which fork bars a split. `Runs` and `OrderedRuns` are about whole runs, `Hands` about the steps of other strands.
 #![tactic(auto)]
 
 ghost use Rattle.cw_trace.specs.Laws.{Reading, RootStands, Leaf, Begin, Close, Join, GoesOnBeneath};

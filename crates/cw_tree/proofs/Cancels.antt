@@ -45,7 +45,7 @@ names_back t first accesses b stamp =
 
 -- ## What was written beneath a block
 
--- of these nodes, n is a write beneath block b, and has a smaller stamp
+-- n is one of these nodes, a write beneath block b, and has a smaller stamp
 pub record IsWroteIn (t : List Node) (b stamp : ℕ) (us : List ℕ) (n : ℕ) : Type 0 where
   pub member : In n us
   pub over : is_above t b n ≡ true
@@ -127,7 +127,7 @@ before_front t b (k ∷ ns) ms n (inr i) over =
 
 -- ## A list of what is put back
 
--- it is told by its cells, and by the value of each
+-- its cells, and the value of each, determine it
 pub backs_are : (f : ℕ → ℤ) (back : List Back) (cs : List ℕ) → map (λ x. x.cell) back ≡ cs → ((x : Back) → In x back → x.value ≡ f x.cell)
     → back ≡ map (λ c. record { cell = c; value = f c }) cs
 backs_are f [] [] e h = refl

@@ -63,7 +63,7 @@ pub rises_apart : (xs : List ℕ) → Rises xs → Apart xs
 rises_apart [] r = tt
 rises_apart (x ∷ xs) r = ((λ i. let low : x < x = r.0 x i in omega arith), rises_apart xs r.1)
 
--- of two members the smaller one is ahead
+-- the smaller of two members is ahead
 pub rises_ahead : (a b : ℕ) (xs : List ℕ) → Rises xs → In a xs → In b xs → a < b → Ahead a b xs
 rises_ahead a b [] u i j l = i
 rises_ahead a b (x ∷ xs) u (inl e) (inl f) l = absurd (omega arith)

@@ -1,5 +1,5 @@
--- The accesses of a cell: which are live, the chain that they make, and the cell's value. If they outlive a numbering
--- of the tree, they are named by their stamps.
+-- The accesses of a cell: which are live, the chain that they make, and the cell's value. If they outlive a
+-- numbering of the tree, they are named by their stamps.
 use Rattle.std.specs.Prelude.{◌≡◌, ℕ, ℤ, ◌&&◌, Bool, true, false, not, nat_le, IsTrue, List, [], ◌∷◌, map, filter, slice_get, Option, Some, None, unwrap_or, All, if◌then◌else◌}
 use Rattle.std.specs.List.{list_all}
 use Rattle.cw_tree.specs.declared.node.Node.{Node}

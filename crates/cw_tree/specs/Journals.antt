@@ -17,7 +17,7 @@ pub record IsEntry (t : List Node) (v : ℤ) (u : ℕ) (e : Entry) : Type 0 wher
   pub old : e.old ≡ v
   pub read : (w : ℤ) → read t u ≡ Some w → w ≡ v
 
--- the entries of accesses, one after another, of which the first met value v
+-- the entries of accesses, one after another, the first of which met value v
 abbrev pub AreEntries : List Node → ℤ → List ℕ → List Entry → Type 0
 AreEntries t v [] [] = Unit {0}
 AreEntries t v [] (e ∷ es) = ⊥

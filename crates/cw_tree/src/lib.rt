@@ -5,8 +5,8 @@
 //! `Cancels`, `Refusals` and `Histories` have what the layers above say of a tree, its accesses, its cancels and its
 //! conflicts. `AccessStacks` has the accesses of a cell with their entries, `VictimsAt` the victim of an access at a
 //! place, `NextNodes` where a node may be made next and with which stamp, `Newest` which accesses are newest. `InOrder`
-//! has a tree, its conflicts and its end with the nodes numbered depth first, `OneTree` when two trees are one except
-//! for the numbers of their nodes. `Laws`, `ChainLaws` and `OrderLaws` are laws on them, `Worked` and `WorkedRun` try
+//! has a tree, its conflicts and its end with the nodes numbered depth first. `OneTree` says when two trees differ only
+//! in the numbers of their nodes. `Laws`, `ChainLaws` and `OrderLaws` are laws on them. `Worked` and `WorkedRun` try
 //! them.
 #![tactic(auto)]
 

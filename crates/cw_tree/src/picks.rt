@@ -16,8 +16,8 @@ pub struct Turn {
     pub right: bool,
 }
 
-/// An order: the strands that it names, of which number 0 is the root, the numbers of the strands to pick one after
-/// another, and the strand that it ends with.
+/// An order: the strands that it names, with the root as number 0; the numbers of the strands to pick one after another;
+/// and the strand that it ends with.
 #[derive(Drop)]
 pub struct Picks {
     pub names: Seq<Name>,

@@ -48,7 +48,7 @@ some (c ∷ cs) = go (is_comma c)
 abbrev pub behind : (before : List ℕ) → Option (List ℕ) → Option (List ℕ)
 behind before ns = option_map (λ ms. before ++ ms) ns
 
--- what was read of a list, so many numbers, and what is left of it
+-- what was read of a list, `count` numbers, and what is left of it
 pub record IsReading (limit most : ℕ) (text rest : List ℕ) (count : ℕ) (kept : Result (List ℕ) OutOfMemory) : Type 0 where
   pub before : List ℕ
   pub so_far : IfOk kept (λ ns. ns ≡ before)

@@ -10,7 +10,7 @@ use Rattle.cw_trace.proofs.Query.Agreeing.{gives_later, gives_held, covers_later
 use Rattle.cw_trace.proofs.Query.Answering.{decides, decides_by_reading, covers_blocks}
 
 module _ (told : Read → Answer → Type 0) where
-  -- a number that was told, by another name
+  -- a number that is the answer, under another name
   told_same : (i v t : ℕ) → told (Owner i) (Number v) → v ≡ t → told (Owner i) (Number t)
   told_same i v t h e = let P : ℕ → Type 0 = λ x. told (Owner i) (Number x) in subst P e h
 
@@ -30,7 +30,7 @@ module _ (told : Read → Answer → Type 0) where
   pub covers_inner : (block last : Mark) (t u : ℕ) (r x : Bool) → told (Owner block.strand) (Number t) → told (Owner last.strand) (Number u) → r ≡ nat_eq u t → r ≡ false → told (Inside u t) (Test x) → Covers told block last x
   covers_inner block last t u r x h g value is k = other_trace h g (λ e. cc (is, value, eq-eqb u t e)) k
 
--- ## Where all that was told is what one tier and gap words hold
+-- ## If all answers are what one tier and gap words hold
 
 module _ (c : ColumnTable) (words : List ℕ) (told : Read → Answer → Type 0) (stays : Stays told (HoldsRead c words)) where
   pub verdict_is : (last : Mark) (asker : ℕ) (v : Verdict) → Gives told last asker v → v ≡ verdict c words last asker

@@ -12,7 +12,7 @@ pub one_in : (front : List Log) (l : Log) (back : List Log) (c : Conflict) → C
 one_in [] l back c h = Contains-append_left l.conflicts (conflicts_in back) c h
 one_in (x ∷ xs) l back c h = Contains-append_right x.conflicts (conflicts_in (xs ++ l ∷ back)) c (one_in xs l back c h)
 
--- of a stack from which an element was taken, what is left was in it
+-- what is left of a stack after an element was taken was in it before
 pub still_in : (old new : List ℕ) (taken : Option ℕ) → MatchOption taken ((old ≡ []) × (new ≡ [])) (λ x. old ≡ x ∷ new) → (b : ℕ) → Contains new b → Contains old b
 still_in old new None (e, f) b h = subst (λ bs. Contains bs b) (f ∙ sym e) h
 still_in old new (Some x) e b (k, r, q) = subst (λ bs. Contains bs b) (sym e) (suc k, omega arith, q)

@@ -1,6 +1,7 @@
 //! A table of tests: what the reader, the printer, the rules of code, the compiler, the program of a load and strands of code make of texts.
-//! Standard input has the cases (the crate's `stdin`): a line of `#` and a name, a line with what is asked (`asks.rt` says what may be), and the
-//! text of which it is asked (`texts.rt` says how it is written). What each gives is printed behind its name; what it must be has `stdout`.
+//! Standard input has the cases (the crate's `stdin`). A case is a line of `#` and a name, a line with the question (`asks.rt` lists the
+//! questions), and the text that it is asked about (`texts.rt` says how it is written). The program prints each name, and the answer behind
+//! it. The crate's `stdout` is what it has to print.
 #![tactic(auto)]
 
 mod asks;

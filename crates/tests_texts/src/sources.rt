@@ -39,7 +39,7 @@ pub(crate) fn print(alloc: Global, text: &[u8], shown: &mut Vec<u8>) -> Result<(
     }
 }
 
-/// `load`: the text that the program of a load of so many is printed as.
+/// `load`: the text that the program of a load of `count` transfers is printed as.
 pub(crate) fn load(alloc: Global, count: u32, shown: &mut Vec<u8>) -> Result<(), OutOfMemory> {
     // a hint to the prover: no load of the table is out of range
     let count = count.clamp(1, 20000);

@@ -11,7 +11,7 @@ use cw_code::{Back, Limits, Program};
 use cw_strand::{Given, Strand, Want};
 use std::alloc::Global;
 
-/// Why a walk stops before its end: memory was wanting, or the strand wanted something else, which is shown.
+/// Why a walk stops before its end: memory ran out, or the strand wanted something else, which is shown.
 #[derive(Clone, Copy)]
 enum Stop {
     Memory,
@@ -116,7 +116,7 @@ fn twice(strand: &mut Strand, program: &Program, shown: &mut Vec<u8>) -> Result<
     to_output(strand, program, shown)
 }
 
-/// What a strand is told to write back where it gives up a block.
+/// What a strand has to write back if it gives up a block.
 fn backs(alloc: Global, written: &str) -> Result<Seq<Back>, OutOfMemory> {
     let mut back = Seq::new(alloc);
     let mut pairs = written.split(',');
@@ -231,7 +231,7 @@ fn walk(alloc: Global, ask: &str, program: &Program, shown: &mut Vec<u8>) -> Res
 }
 
 /// Shows what the strand of the program of a text wants, one want a line. The ask has the walk, the fuel and the size:
-/// - `steps`: from want to want to the end. Behind ` back ` stands what a cancel is told to write back: pairs of a cell and a value, with commas;
+/// - `steps`: from want to want to the end. Behind ` back ` is what a cancel has to write back: pairs of a cell and a value, with commas;
 /// - `again`: a block in which the strand forks and puts out 2 is gone through twice, the left strand first, and then on to the end;
 /// - `beside`: a block in which the strand forks and the right one is to write 2 to the first cell, so far twice.
 pub(crate) fn answer(

@@ -20,7 +20,7 @@ fn put_bytes(text: &mut Vec<u8>, digits: &str) -> Result<(), OutOfMemory> {
     Ok(())
 }
 
-/// Puts a text behind another one so many times.
+/// Puts a text behind another one, as many times as `times` says.
 fn put_often(text: &mut Vec<u8>, times: &str, repeated: &str) -> Result<(), OutOfMemory> {
     for _ in 0..count(times) {
         text.extend_from_slice(repeated.as_bytes())?;
@@ -53,8 +53,8 @@ fn put_all(text: &mut Vec<u8>, written: &str) -> Result<(), OutOfMemory> {
     Ok(())
 }
 
-/// The text of a case. It stands as it is, but for what is between two backquotes: a number, a space and what stands there so many times, or an
-/// `x`, a space and bytes by two digits each, with a space between them.
+/// The text of a case: as it is written, except between two backquotes. A number, a space and a text there mean that text, that many times. An
+/// `x`, a space and bytes of two digits each, with a space between them, mean these bytes.
 pub(crate) fn whole(alloc: Global, written: &str) -> Result<Vec<u8>, OutOfMemory> {
     let mut text = Vec::new(alloc);
     put_all(&mut text, written)?;

@@ -51,7 +51,7 @@ module _ (m : OpenMachine) (tree : IsTree m.tree) (w : AreNested m.tree (is_open
   r : IsRooted t
   r = tree.rooted
 
-  -- of two open forks of a strand the earlier one would be the later one
+  -- if a strand had two open forks, the earlier one would be the later one
   apart : (f g : ℕ) → f < g → g < length t → is_fork t f ≡ true → is_fork t g ≡ true → is_open m f ≡ true → is_open m g ≡ true → strand_of t f ≡ strand_of t g → ⊥
   apart f g less hg ff fg of og same =
       let hf : f < length t = omega arith in

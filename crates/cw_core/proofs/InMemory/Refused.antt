@@ -49,7 +49,7 @@ use Rattle.cw_core.proofs.Kept.RefusedStakes.{victim_free, victim_marked}
 use Rattle.cw_core.proofs.Kept.RefusedParts.{refused_state, counted_same, refused_parts}
 use Rattle.cw_core.proofs.Kept.RefusedTold.{after_refused, victim_attempt, own_attempt, spends, refused_access, refused_block}
 
--- a conflict is told by its parts
+-- the conflict of a refusal is d if its parts are those of d
 told_by : (b : Barrier) (c asker : ℕ) (r : Refused) (chain : List ℕ) (d : Conflict) → c ≡ d.cell → asker ≡ d.asker → b.last.stamp ≡ d.last → b.block ≡ d.block → r.victim ≡ d.victim → r.attempt ≡ d.attempt → chain ≡ d.chain
     → conflict_with b c asker r chain ≡ d
 told_by b c asker r chain d cell asks last block victim attempt listed =

@@ -28,7 +28,7 @@ same_but_room xs ys same d c at = by (slice_get ys d) refl where
   by None e = absurd (let a = ap (option_map without_room) at in let b = ap (option_map without_room) e in cc (told, a, b))
   by (Some b) e = (b, e, (let x = ap (option_map without_room) at in let y = ap (option_map without_room) e in let z : Some (without_room c) ≡ Some (without_room b) = sym x ∙ told ∙ y in cc z))
 
--- what is seen of cells but for their rooms
+-- cells that differ only in their rooms look the same to what does not look at rooms
 pub seen_same : {A : Type 0} (f : CellParts → A) → (xs ys : List CellParts) → ((c : CellParts) → f (without_room c) ≡ f c) → map without_room xs ≡ map without_room ys → map f xs ≡ map f ys
 seen_same f xs ys plain same =
     sym (map_plain xs) ∙ sym (map-map f without_room xs) ∙ ap (map f) same ∙ map-map f without_room ys ∙ map_plain ys where

@@ -59,14 +59,14 @@ module _ (t : List Node) (r : IsRooted t) (p stamp : ℕ) (there : p < length t)
   len_one : length (t ++ one ∷ []) ≡ suc f
   len_one = length_more t one
 
-  -- of the place the fork
+  -- the place has the fork as its newest child
   pub place_children : children u p ≡ children t p ++ f ∷ []
   place_children =
       ap (λ v. children v p) first_node
       ∙ children_apart (half ∷ half ∷ []) (t ++ one ∷ []) p (omega (arith, len_one)) (ap (λ b. b || (b || false)) (apart f p (λ e. absurd (omega arith))))
       ∙ children_here t one some
 
-  -- of the fork its strands
+  -- the fork has its two strands as children
   pub fork_children : children u f ≡ suc f ∷ suc (suc f) ∷ []
   fork_children =
       let v = t ++ one ∷ [] in
@@ -77,7 +77,7 @@ module _ (t : List Node) (r : IsRooted t) (p stamp : ℕ) (there : p < length t)
       ∙ ap (λ ns. ns ++ length (v ++ half ∷ []) ∷ []) left
       ∙ ap (λ n. suc f ∷ n ∷ []) (length_more v half ∙ ap suc len_one)
 
-  -- of any other node what they were, and of the strands none
+  -- any other node has the children that it had, and the strands have none
   pub other_children : (n : ℕ) → n ≢ p → n ≢ f → children u n ≡ children t n
   other_children n np nf = children_apart (fork_nodes f p stamp) t n some (ap (λ b. b || (nat_eq f n || (nat_eq f n || false))) (apart p n (λ e. absurd (np (sym e)))) ∙ ap (λ b. b || (b || false)) (apart f n (λ e. absurd (nf (sym e)))))
 

@@ -40,7 +40,7 @@ use Rattle.cw_core.proofs.Kept.RowsGrow.{made_grown, now_grown, new_row, tail_ot
 pub all_at : {X : Type 0} (P : X → Type 0) (xs : List X) (i : ℕ) (x : X) → slice_get xs i ≡ Some x → All P xs → P x
 all_at P xs i x e all = subst P (get_or_from_slice_get xs i x x e) (All-get_or P xs i x (slice_get_within xs i x e) all)
 
--- but for a stop, nothing fits where a budget was spent
+-- once a budget is spent, only a stop fits
 pub unspent : (k : CoreState) (e : Event) → is_stop e ≡ false → fits k e ≡ true → is_none (spent k) ≡ true
 unspent k e other fit =
     let a = and_parts (is_none k.halt && (is_none (spent k) || is_stop e)) (fits_now k e) fit in

@@ -124,7 +124,7 @@ module _ (first : List ℤ) (k : CoreState) (core : IsCore first k) (s : ℕ) (f
       let on : is_above u g.0 conflict.asker ≡ true = ap (is_above u g.0) asks ∙ above_new_one g.0 ∙ g.3 in
       cc (on, off)
 
-  -- what was at stake before is so still, and but for the new conflict nothing else
+  -- what an old conflict puts at stake now, it put at stake before
   old_stake : (n v i : ℕ) (d : Conflict) → slice_get m.conflicts i ≡ Some d → IsAtStake z n d v → IsAtStake m n d v
   old_stake n v i d at stake = stake_old t (x ∷ []) rooted m z refl refl refl n v d (asker_low i d at) (λ v le. fresh d v le) stake
 

@@ -1,4 +1,4 @@
--- Cores that are the same but for what splits change stay so: no step of the open machine looks at the blocks of conflicts.
+-- Cores that differ only in what splits change go on to differ only in that: no step of the open machine looks at the blocks of conflicts.
 use Rattle.std.proofs.Common.{◌≡◌, ℕ, ◌+◌, List, [], ◌∷◌, map, refl, ap, sym, ◌∙◌, Bool, true, false, cond, Option, None, nat_le}
 use Rattle.std.specs.Prelude.{ℤ, is_none, slice_index}
 use Rattle.std.proofs.lemmas.List.{length-append, length-map, map-append}
@@ -25,7 +25,7 @@ alike_trans i k j a b = record { machine = a.machine ∙ b.machine; columns = a.
 
 -- ## The machine
 
--- a step but for the block that a refused access met
+-- a step without the block that a refused access met
 abbrev plain : Step → Step
 plain (refuses s c w met) = refuses s c w (record met { block = 0 })
 plain (forks s n) = forks s n
@@ -69,7 +69,7 @@ access_steps : (z : Bool) (s c : ℕ) (w : Option ℤ) (n last b d : ℕ) (chain
 access_steps true s c w n last b d chain = refl
 access_steps false s c w n last b d chain = refl
 
--- the steps of an event come from the machine alone, but for those blocks
+-- apart from those blocks, the steps of an event come from the machine alone
 same_steps : (k : CoreState) (e : Event) → map plain (steps_of k e) ≡ map plain (steps_of (with_machine (without_blocks k.machine)) e)
 same_steps k (event.Access s c w) =
     let met = met_by k s c in

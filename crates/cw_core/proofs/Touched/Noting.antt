@@ -82,7 +82,7 @@ module _ (t : List Node) (r : IsRooted t) (b : ℕ) (block_there : b < length t)
       let ne : n ≢ b = λ q. absurd (let a = ap (touches t c) q in let x = block_touches t c b block in cc (a, x, touch)) in
       record { touches = touch; live = lives; over = sym (ancestor_above t b n ne) ∙ within }
 
-  -- on from an access that is still to come, but for the node itself
+  -- an access that is still to come stays so after a step of the walk, unless it is the node itself
   comes_on : (n : ℕ) (d : Bool) (m : ℕ) (e : Bool) → IsStep t r b n d m e → (c a : ℕ) → IsAccessBeneath t b c a → (d ≡ true → a ≢ n)
       → ToCome t n d a → ToCome t m e a
   comes_on n d m e step c a own ne come =

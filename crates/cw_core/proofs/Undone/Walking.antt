@@ -127,7 +127,7 @@ abbrev comes : List Node → ℕ → Bool → ℕ → Bool
 comes t n true x = is_ancestor t n x || is_left t n x
 comes t n false x = is_left t n x
 
--- so many steps of a walk are left, at most
+-- at most how many steps of a walk are left
 abbrev pub walk_left : List Node → ℕ → Bool → ℕ
 walk_left t n down = length (filter (comes t n down) (all_nodes t)) * length t + n
 
@@ -212,7 +212,7 @@ module _ (t : List Node) (r : IsRooted t) (b : ℕ) where
     pub within : is_ancestor t b m ≡ true
     pub lives : is_live t n ≡ true → is_live t m ≡ true
     pub smaller : walk_left t m e < walk_left t n d
-    -- what was to come is, but for the node itself and what stands beneath it where it was aborted
+    -- what was to come still is, except the node itself and, if that is aborted, whatever is beneath it
     pub comes : (x : ℕ) → x < length t → (d ≡ true → x ≢ n) → (is_aborted t n ≡ true → is_above t n x ≡ false) → ToCome t n d x → ToCome t m e x
 
   -- fewer nodes are to come

@@ -35,7 +35,7 @@ module _ (t : List Node) where
   AreInPlaces = (n : ℕ) → is_pending t n ≡ true → (is_strand t (parent_of t n) || is_block t (parent_of t n)) ≡ true
 
   module _ (w : IsNumbered t) (pl : PendingLast t) (held : AreInPlaces) where
-    -- of two pending blocks in one place neither is the later one
+    -- in one place, nothing comes after a pending block
     not_later : (p n m : ℕ) → is_fork t p ≡ false → IsChild t p n → is_pending t n ≡ true → IsChild t p m → n < m → ⊥
     not_later p n m plain c e d l =
         let P : ℕ → Type 0 = λ q. is_fork t q ≡ false in

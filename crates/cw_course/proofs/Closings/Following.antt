@@ -1,4 +1,4 @@
--- Of a course that goes, or stops, the states that its tree tells are those of its strands.
+-- If a course goes, or stops, the states that its tree tells are those of its strands.
 use Rattle.std.proofs.Common.{◌≡◌, ℕ, zero, suc, ◌+◌, ◌<◌, ◌≤◌, List, [], ◌∷◌, ◌++◌, length, refl, ap, sym, ◌∙◌, subst, arith, Bool, true, false, cond, Option, Some, None, inl, inr, append_assoc, append-nil}
 use Rattle.std.specs.Prelude.{◌&&◌, ◌||◌, slice_get}
 use Rattle.std.proofs.lemmas.Bool.{and_parts, or_cases, not_from_false}

@@ -12,7 +12,7 @@ use Rattle.cw_course.specs.Courses.{Course, nothing, act, block, fork, fault, si
 
 -- ## Numbers
 
--- so many nodes the logs of its right strands have
+-- how many nodes the logs of its right strands have
 abbrev pub width : Course → ℕ
 width nothing = 0
 width (act cs kind stamp) = width cs

@@ -66,7 +66,7 @@ module _ {A : Type 0} (s : Strands A) (t : List Node) where
   after_node f n a None = a
   after_node f n a (Some x) = after_kind f (children t n) a x.kind x.state
 
-  -- behind node n, from the state before it, to so many levels
+  -- the state behind node n, given the state before it, for this many levels
   abbrev pub past : (levels n : ℕ) → A → A
   past zero n a = a
   past (suc k) n a = after_node (past k) n a (slice_get t n)

@@ -19,7 +19,7 @@ set_next (x ∷ xs) ys y z = ap (λ us. x ∷ us) (set_next xs ys y z)
 pub closed_at : (t : List Node) (b : ℕ) (state : BlockState) (end : ℕ) (x : Node) → slice_get t b ≡ Some x → closed t b state end ≡ slice_set t b (record x { state = state; end = end })
 closed_at t b state end x e = rw e refl
 
--- so many nodes stand behind a course
+-- how many nodes are behind a course
 pub behind_many : (p : Page) (cs : Course) → length (behind p cs) ≡ length p.nodes + size cs
 behind_many p cs = length-append p.nodes (laid cs (length p.nodes) p.place) ∙ omega (arith, laid_many cs (length p.nodes) p.place)
 

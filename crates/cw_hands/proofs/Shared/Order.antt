@@ -46,7 +46,7 @@ module _ (s : SharedMoment) where
   pub wide_low : (f : ℕ) → has_columns s f ≡ true → fork_column s.machine.tree f + 1 < used s.columns
   wide_low f e = ltb-true (fork_column t f + 1) (used s.columns) (and_parts (is_fork t f) (nat_lt (fork_column t f + 1) (used s.columns)) e).1
 
-  -- what is open yet is open in the machine, but for forks whose merge is owed
+  -- what is open yet is open in the machine, except forks whose merge is owed
   pub yet : (n : ℕ) → is_open_yet s n ≡ true → (is_open s.machine n ≡ true) ⊎ (is_owed s n ≡ true)
   yet n e = elim (cases_Bool (has_columns s n)) [
     | inr off ↦ inl (sym (at_other n off) ∙ e)
@@ -70,7 +70,7 @@ module _ (s : SharedMoment) where
       | inl on ↦ at_wide n on ∙ not_from_false (has s.joins (fork_column t n)) (false_from_ne_true (has s.joins (fork_column t n)) (λ z. absurd (cc (o.joined n on z, open_unjoined m n (wide_fork n on) e))))
     ]
 
-    -- of two children of a strand or block the earlier is open no more
+    -- the earlier of two children of a strand or block is open no more
     earlier : (n k : ℕ) → 0 < n → n < k → k < length t → parent_of t n ≡ parent_of t k → is_fork t (parent_of t n) ≡ false → is_open_yet s n ≡ false
     earlier n k some less h same nf = false_from_ne_true (is_open_yet s n) (λ e. elim (yet n e) [
       | inl z ↦ absurd (cc (z, w.last n k some less h same nf))

@@ -28,7 +28,7 @@ pub elements_of : (job : Job) → IsCompiled job.program → (strands_of_job job
 unfolding strands_of_job
 elements_of job compiled = code_elements job compiled
 
--- a load or a store is of one of so many elements, and no block is given up
+-- a load or a store is of one of the first k elements, and no block is given up
 abbrev pub NamesThere : ℕ → Want → Type 0
 NamesThere k (Load c) = c < k
 NamesThere k (Store c v) = c < k

@@ -141,7 +141,7 @@ module _ (m : OpenMachine) (f l r : ℕ) (dl dr : Bool) where
           rolls_back = ap (λ q. q && in_block m s && leads_back m s (place t s)) (now ∙ sym running);
         }
 
-    -- of two open nodes of one strand the first is above the second
+    -- if two open nodes are of one strand, the first is above the second
     in_line : (a b : ℕ) → a < b → b < length t → is_open m a ≡ true → is_open m b ≡ true → strand_of t a ≡ strand_of t b → is_ancestor t a b ≡ true
     in_line a b less hb open_a open_b same =
         true_from_ne_false (is_ancestor t a b) (λ off.

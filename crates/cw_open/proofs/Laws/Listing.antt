@@ -26,7 +26,7 @@ pub record AreListed (m : OpenMachine) : Type 0 where
   pub accesses : (c s : ℕ) → In s (live m c) → HasAccess m.tree c s
   pub rises : (c : ℕ) → Rises (live m c)
   pub lives : (c n : ℕ) → touches m.tree c n ≡ true → In (stamp_of m.tree n) (live m c) → is_live m.tree n ≡ true
-  -- and it has all that are live, but for those that were undone
+  -- and it has all that are live, except those that were undone
   pub missing : (c n : ℕ) → touches m.tree c n ≡ true → is_live m.tree n ≡ true → In (stamp_of m.tree n) (live m c) ⊎ IsGone m n
   pub cells : FitsCells m.tree (length m.first)
 

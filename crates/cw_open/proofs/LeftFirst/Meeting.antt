@@ -112,7 +112,7 @@ module _ (m : OpenMachine) (w : IsWell m) (s : ℕ) (running : is_running m s �
   there : p < length t
   there = (stands_well m w s running).there
 
-  -- of each fork around it in whose right strand it stands the left one has finished
+  -- for each fork around it in whose right strand it is, the left strand has finished
   left_around : (q : ℕ) → is_strand t q ≡ true → is_ancestor t q s ≡ true → LeftDone t (has_finished m) q
   left_around q strand over l some less same fork =
       let i = filter_in (λ n. nat_lt 0 n && is_strand t n) q (path t s) (ancestor_in t q s over) (and_from (nat_lt 0 q) (is_strand t q) (lt-ltb 0 q (omega arith)) strand) in

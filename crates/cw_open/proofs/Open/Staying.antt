@@ -19,7 +19,7 @@ use Rattle.cw_tree.proofs.Walks.Ancestors.{above_parent, ancestor_above, ancesto
 use Rattle.cw_tree.proofs.Walks.Meets.{lca_is_meet}
 use Rattle.cw_open.proofs.Open.Growth.{IsGrowth}
 
--- the nodes of tree t are in tree u what they were, but for the states and ends of blocks
+-- the nodes of tree t are in tree u what they were, except for the states and ends of blocks
 pub record Stays (t u : List Node) : Type 0 where
   pub longer : length t ≤ length u
   pub rooted : IsRooted t

@@ -25,7 +25,7 @@ filter_filter p q (x ∷ xs) = by (p x) (filter_filter p q xs) where
   by true more = ap (λ ys. cond (q x) (x ∷ ys) ys) more
   by false more = more
 
--- of the numbers below k that pass a test, those below n
+-- the numbers below k that pass a test and are below n are those below n that pass it
 front : (p : ℕ → Bool) (k n : ℕ) → n ≤ k → filter (λ m. nat_lt m n) (filter p (below k)) ≡ filter p (below n)
 front p k n le =
     filter_filter p (λ m. nat_lt m n) (below k)

@@ -107,7 +107,7 @@ told_new m r p h c met =
             number_grown t (x ∷ []) (λ n. n.stamp) b (omega arith),
           )
 
--- what one conflict of some that are told passes, it passes another test
+-- if a recorded conflict that passes one test passes another, so does one among several
 pub any_told : {t : List Node} (p q : Conflict → Bool) (cs : List Conflict) → All (IsTold t) cs → ((c : Conflict) → IsTold t c → p c ≡ true → q c ≡ true) → list_any p cs ≡ true → list_any q cs ≡ true
 any_told p q [] all f e = absurd (cc e)
 any_told {t} p q (c ∷ cs) all f e =
@@ -164,7 +164,7 @@ module _ (first : List ℤ) (m : OpenMachine) (w : IsToldState first m) where
   r : IsRooted t
   r = well.sound.tree.rooted
 
-  -- of a conflict that was recorded, a block with the victim's stamp is above the asker
+  -- if a conflict was recorded, a block with the victim's stamp is above the asker
   pub victim_above : (c : Conflict) → IsTold t c → (b : ℕ) → is_victim t (c ∷ []) b ≡ true → is_above t b c.asker ≡ true
   victim_above c told b e =
       let z = and_parts (is_block t b) (list_any (λ c. option_map_or (λ v. nat_eq v (stamp_of t b)) (victim_of c) false) (c ∷ [])) e in

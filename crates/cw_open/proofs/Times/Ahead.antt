@@ -24,7 +24,7 @@ use Rattle.cw_open.specs.Refused.{IsNewest, as_told, AtOnceIsTold, AheadIsTimely
 use Rattle.cw_open.proofs.Runs.States.{IsState, state_after, state_opening}
 use Rattle.cw_open.proofs.Refused.Told.{met_is}
 
--- ## What an access met is told
+-- ## Conflicts tell what an access met
 
 rises_drop : (k : ℕ) (us : List ℕ) → Rises us → Rises (drop k us)
 rises_drop zero us r = r

@@ -63,7 +63,7 @@ module _ {T J : Type 0} (job : Job) (of : T → Token) where
   base_goes base.Root to a i = i
   base_goes (base.Right fork half) to a i = i
 
--- the same is written in it where it was told of a halt, or halted
+-- a token that learns of a halt, or halts, fits what it fitted before
 pub fits_told : (x : Token) (a : Start) (t : Trail StrandState) (cs : Course) (b : Bool) → Fits x a t cs → Fits (was_told x b) a t cs
 fits_told x a t cs b w = record { own = w.own; joined = w.joined; strand = w.strand; place = w.place; around = w.around; falling = w.falling; fork = w.fork; split = w.split }
 

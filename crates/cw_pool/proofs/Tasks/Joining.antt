@@ -198,7 +198,7 @@ module _ (budget : ℕ) (x y : Token) (a : Start) (t : Trail StrandState) (os : 
     outermost = all_conflicts (λ (c : Conflict). Contains around c.victim → to ≤ c.victim) h f.outermost;
   }
 
-  -- of two victims the outer one falls
+  -- the outer one of two victims falls
   falls_both : (to other : ℕ) → Falls to x around → Falls other y around → Falls (min to other) one around
   falls_both to other f h = by (either to other) where
     by : (to ≤ other) ⊎ (other ≤ to) → Falls (min to other) one around
@@ -264,7 +264,7 @@ module _ (job : Job) where
     pub begins : body.begins ≡ map (seen_in further) bs
     pub stays : want_of body ≡ want.End → ⊥
 
-  -- of the body of a left strand the strand that forked needs where that came to its end
+  -- what the strand that forked needs of its left strand's body, if that came to its end
   abbrev pub LeftBody : Mode → InBlocks → Start → Trail StrandState → Course → Type 0
   LeftBody mode.Goes body a t cs = Stands (strands_of_job job) a.state t cs body.state × IsTrue (is_over ((strands_of_job job).want body.state))
   LeftBody how body a t cs = Unit {0}
@@ -444,7 +444,7 @@ module _ (job : Job) where
       },
     )
 
-    -- however both ended, but for a right strand that waits beside a left one at its end
+    -- however both ended, unless the right strand waits beside a left one at its end
     pub stands_joined : (m k : Mode) → ((mode_of_both m k ≡ mode.Stopped → ⊥) → p ≡ Going) → (mode_of_both m k ≡ mode.Waits → ⊥) → (m ≡ mode.Waits → ⊥) → Leaving m x a left_trail ls → Leaving k y right_start opens rs
         → LeftBody m left a left_trail ls → RightBody k right right_start rs → StandsBehind job (mode_of_both m k) (as_one x y a t os p) right left a t whole
     stands_joined m k phase some first v w l r = by m k (tells_both job.limits.aborts x y a t os p m k v.tells w.tells) phase some first v w l r where

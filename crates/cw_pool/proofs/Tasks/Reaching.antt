@@ -1,4 +1,4 @@
--- Where a strand that runs has come to, by the law of strands: so many blocks of its own are begun there and not ended.
+-- What a running strand has reached, by the law of strands, and how many blocks of its own are begun there and not ended.
 use Rattle.std.proofs.Common.{◌≡◌, Option, ℕ, suc, List, [], ◌∷◌, ap, sym, subst}
 use Rattle.std.specs.Prelude.{IsTrue, length}
 use Rattle.cw_strand.specs.declared.want.Want.{Want}
@@ -21,7 +21,7 @@ module _ {A : Type 0} (s : Strands A) where
   reached_on (of_left r e g) h = of_left r e (further s g h)
   reached_on (of_right r e g) h = of_right r e (further s g h)
 
-  -- it has begun so many blocks that are pending
+  -- how many of the blocks that it began are pending
   abbrev pub blocks_in : Trail A → ℕ
   blocks_in opens = 0
   blocks_in (in_block t cs b stamp) = suc (blocks_in t)

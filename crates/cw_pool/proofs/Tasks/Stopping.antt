@@ -91,7 +91,7 @@ module _ (job : Job) where
   fault_there mode.Waits x body a t cs s = no_fault x.stop cs _ _ _ s.free.on.stop
 
 module _ {T J : Type 0} (job : Job) (of : T → Token) where
-  -- it was told that some strand has stopped
+  -- it has learnt that some strand has stopped
   pub is_told : (x z : Token) (how : Mode) (body : InBlocks) (bs : List (Below T J)) (b : Base T J) → IsRunning job of x body how bs b → z ≡ was_told x true
       → IsRunning job of z body mode.Stopped bs b
   is_told x z how body bs b r e =

@@ -74,11 +74,11 @@ module _ {T J : Type 0} (job : Job) (of : T → Token) where
       worked_so job how x body f.course
       (subst (λ (a : Start). Leaves job x body how a opens f.course) (same ∙ f.based) (subst (λ (t : Trail StrandState). Leaves job x body how f.start t f.course) over f.leaves))
 
-  -- one that goes was told of no halt
+  -- the token of a strand that goes on has learnt of no halt
   pub goes_untold : (x : Token) (how : Mode) (body : InBlocks) (bs : List (Below T J)) (b : Base T J) → IsRunning job of x body how bs b → how ≡ mode.Goes → x.told ≡ false
   goes_untold x how body bs b r goes = (subst (λ (h : Mode). IsRunning {T = T} {J = J} job of x body h bs b) goes r).stands.free.on.told
 
--- ## What it is told at last
+-- ## What it learns at last
 
 module _ (x : Token) (b : Bool) where
   untold_before : (was_told x b).told ≡ false → x.told ≡ false

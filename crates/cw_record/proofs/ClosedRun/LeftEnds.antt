@@ -36,7 +36,7 @@ end_is t cs budget h spent memory told is e all =
     ∙ ap (λ x. with_left x memory (outputs_shown t (items t cs budget x))) e
     ∙ end_with_left t cs budget h spent memory
 
--- what is told as left are its outputs
+-- an end names the outputs that were left
 pub has_outputs : (t : List Node) (cs : List Conflict) (budget : ℕ) (h : Option Halt) (spent : Bool) (memory : List ℤ) → HasOutputs t cs budget (end_after h spent memory (outputs_left t cs budget))
 has_outputs t cs budget (Some (halt.Fault x kind)) spent memory = tt
 has_outputs t cs budget (Some (halt.Budget x)) spent memory = tt

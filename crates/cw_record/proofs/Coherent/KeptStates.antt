@@ -49,7 +49,7 @@ module _ {A : Type 0} (s : Strands A) (t u : List Node) (x y : States A) (e o : 
     pub none : (m : ℕ) → length t ≤ m → m < length u → parent_of u m ≡ n → ⊥
     pub other : last_child t n ≡ Some e → ⊥
 
-  -- Tree u has the nodes of tree t, and states y those of x, but for the state after node e, which is the last of its place. New nodes and e
+  -- Tree u has the nodes of tree t. States y are states x, except the state after node e, which is the last of its place. New nodes and e
   -- are right in node o.
   pub record Keeps : Type 0 where
     pub rooted : IsRooted t

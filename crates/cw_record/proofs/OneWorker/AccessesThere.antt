@@ -12,7 +12,7 @@ use Rattle.cw_job.specs.Jobs.{Job}
 use Rattle.cw_job.specs.Room.Strands.{StrandState, strands_of_job}
 use Rattle.cw_job.proofs.Room.Elements.{code_elements}
 
--- a load or a store is of one of so many elements
+-- a load or a store is of one of the first k elements
 abbrev pub AccessThere : ℕ → Want → Type 0
 AccessThere k (Load c) = c < k
 AccessThere k (Store c v) = c < k

@@ -71,7 +71,7 @@ cancel_blocks [] zero m = absurd m
 cancel_blocks (on_left k n r ∷ c) zero m = absurd m
 cancel_blocks (on_right k n o l ∷ c) zero m = absurd m
 
--- all begun blocks are told as those of strand 0
+-- all begun blocks are recorded as those of strand 0
 abbrev OfOne : Block → Type 0
 OfOne b = b.strand ≡ 0
 
@@ -308,7 +308,7 @@ module _ (job : Job) (closes : Closes (strands_of_job job)) (there : AccessesThe
 
   -- ## Its blocks can be followed
 
-  -- where a block is begun in the strand, the innermost one is told as that of strand 0
+  -- if a block is begun in the strand, the innermost one is recorded as that of strand 0
   first_own : (t : List Node) (first : List ℤ) (p : ℕ) (c : List Crossing) (n : ℕ) (undo : Undo) (memory : List ℤ) (bs : List Block) (xs : List Since) → Keeps t first p c (suc n) xs → AllZip (IsSince undo.writes.items memory) bs xs → All OfOne bs
       → (b : Block) × (rest : List Block) × (bs ≡ b ∷ rest) × (b.strand ≡ 0)
   first_own t first p c n undo memory bs [] keeps are all = absurd keeps

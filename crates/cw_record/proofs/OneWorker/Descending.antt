@@ -14,12 +14,12 @@ pub record Crossing : Type 0 where
   pub turn : Turn
   pub blocks : ℕ
 
--- the name of the strand beneath these forks, of which the innermost is the first
+-- the name of the strand beneath these forks, the innermost of which comes first
 abbrev pub way_of : List Crossing → List Turn
 way_of [] = []
 way_of (x ∷ c) = way_of c ++ x.turn ∷ []
 
--- Place p of tree t is in so many blocks of a strand that made so many forks, beneath these forks.
+-- Place p of tree t is beneath these forks, in a strand that made `forks` forks, and in `blocks` blocks of that strand.
 abbrev pub Descends : List Node → (p : ℕ) → List Crossing → (blocks forks : ℕ) → Type 0
 Descends t p c (suc b) k = IsTrue (is_block t p) × Descends t (parent_of t p) c b k
 Descends t p [] zero k = (p ≡ 0) × (forks_of t 0 ≡ k)

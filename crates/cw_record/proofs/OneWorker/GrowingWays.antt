@@ -37,7 +37,7 @@ module _ (t : List Node) (r : IsRooted t) (root : is_strand t 0 ≡ true) where
   other_strand : (n : ℕ) → n < length t → is_strand t n ≡ false → strand_of t n ≡ strand_of t (parent_of t n)
   other_strand n h e = strand_of_other t r n (other_some t root n e) h e
 
-  -- the strand of the place has the name of the way, and made so many forks
+  -- the strand of the place has the name of the way, and made k forks
   strand_of_way : (p : ℕ) (c : List Crossing) (b k : ℕ) → p < length t → Descends t p c b k → (name_of t (strand_of t p) ≡ way_of c) × (forks_of t (strand_of t p) ≡ k)
   strand_of_way p c (suc b) k h d =
       let e : is_strand t p ≡ false = block_no_strand t p d.0 in

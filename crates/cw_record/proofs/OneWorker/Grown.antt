@@ -12,7 +12,7 @@ use Rattle.cw_tree.proofs.NextNodes.Closing.{length_closed, node_closed, number_
 use Rattle.cw_tree.proofs.NodeKinds.{new_stands}
 use Rattle.cw_record.specs.Drawn.{added}
 
--- node y of a tree is node x of a later one, but for its state and its end
+-- node y of a tree is node x of a later one, except for its state and its end
 pub record IsNode (y x : Node) : Type 0 where
   pub kind : y.kind ≡ x.kind
   pub parent : y.parent ≡ x.parent
@@ -39,7 +39,7 @@ grown_by t r none f kind st =
       nodes = λ n y h e. (y, sym (get_append t (x ∷ []) n h) ∙ e, record { kind = refl; parent = refl; stamp = refl });
     }
 
--- what is told of a node whatever its state and its end are
+-- a node without its state and its end
 abbrev bare : Node → Node
 bare x = fresh_node x.parent x.kind x.stamp
 

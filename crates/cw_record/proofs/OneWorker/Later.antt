@@ -157,7 +157,7 @@ module _ (t : List Node) (g : IsRising t) (stamps : AreStamps t) (c : ℕ) where
           by false e old = (let P : List ℕ → Type 0 = AllEndedBetween t in subst P (sym (append-nil (accesses_below t c k))) old)
           by true e old = ended_more t (accesses_below t c k) k old (λ u i. between u k (in_below u k (in_filter (touches t c) u (below k) i).0) e)
 
--- what ended in the tree that one worker built, of so many cells
+-- what has ended in the tree that one worker built, for the first k cells
 pub journals_ended : (t : List Node) (p clock : ℕ) → IsBuilt t p clock → IsRising t → AreStamps t → (k : ℕ) → JournalsEnded t k
 journals_ended t p clock b g stamps k c h =
     let some = access_stamped t stamps c in

@@ -104,7 +104,7 @@ module _ (t : List Node) (p c : ℕ) (g : IsGrowing t p c) (kind : Kind) (stamp 
   over_new : (a : ℕ) → is_ancestor u a n ≡ (nat_eq n a || is_ancestor t a p)
   over_new a = ancestor_new t x g.rooted g.there a
 
-  -- of the old nodes those on the way to the new one are those on the way to its parent
+  -- an old node is on the way to the new one just if it is on the way to its parent
   over_less : (a : ℕ) → a < n → is_ancestor u a n ≡ is_ancestor t a p
   over_less a h = over_new a ∙ ap (λ b. b || is_ancestor t a p) (ne_eqb n a (λ e. omega arith))
 

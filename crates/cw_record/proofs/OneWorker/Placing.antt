@@ -30,7 +30,7 @@ module _ (t : List Node) (p clock : ℕ) (b : IsBuilt t p clock) (u : List Node)
   low : g < length u
   low = let len = m.len in omega arith
 
-  -- of the new node's ancestors all but itself are the place's
+  -- the ancestors of the new node, except itself, are those of the place
   over_place : (c : ℕ) → g ≢ c → is_ancestor u c g ≡ is_ancestor t c p
   over_place c ne = ancestor_step u m.rooted c g some low ne ∙ ap (is_ancestor u c) m.parent ∙ ancestor_same t u g m.agree c p b.there
 

@@ -17,7 +17,7 @@ use Rattle.cw_record.proofs.Coherent.KeptStates.{Keeps, below_same, reached_same
 use Rattle.cw_record.proofs.OneWorker.KnownStates.{Knows, Moves, Waits, over_kept, joins_kept, waits_kept}
 use Rattle.cw_record.proofs.Coherent.States.{States, behind, reached, Does, AreStates, IsOver, JoinsAt}
 
--- tree u has the nodes of tree t, but for state and end of node e
+-- tree u has the nodes of tree t, except for the state and end of node e
 pub record SameNodesBut (t u : List Node) (e : ℕ) : Type 0 where
   pub rooted : IsRooted u
   pub len : length u ≡ length t

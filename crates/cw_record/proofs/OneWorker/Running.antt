@@ -88,7 +88,7 @@ pub record Runs (job : Job) (code : Worker) (w : Working StrandState) : Type 0 w
   pub job_is : job_of_task code.task ≡ job
   pub memory : code.memory.items ≡ w.memory
   pub outputs : code.outputs.items ≡ w.outputs
-  -- its begun blocks are told as those of strand 0
+  -- its begun blocks are recorded as those of strand 0
   pub undo : AreSince code.undo code.memory.items w.since
   pub one_strand : All (λ b. b.strand ≡ 0) code.undo.begun
   pub strand : state_of code.strand ≡ w.strand

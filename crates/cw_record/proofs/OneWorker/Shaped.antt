@@ -1,4 +1,4 @@
--- The tree of one worker is a computation tree, but for strands that are still to come.
+-- The tree of one worker is a computation tree, except for strands that are still to come.
 use Rattle.std.proofs.Common.{◌≡◌, ℕ, zero, suc, ◌+◌, ◌<◌, List, [], ◌∷◌, length, refl, ap, sym, ◌∙◌, arith, Bool, true, false, inl, inr, subst, nat_eq, nat_lt, append-nil}
 use Rattle.std.specs.Prelude.{◌&&◌, ◌||◌, All, IsTrue, count_by}
 use Rattle.std.proofs.lemmas.Bool.{and_from, or_left, or_right, eq-eqb, ne_eqb, lt-ltb}
@@ -37,7 +37,7 @@ pub record IsShaped (t : List Node) (fs : List ℕ) : Type 0 where
   pub root : IsTrue (is_strand t 0)
   -- each fork has two strands, with those that are to come
   pub forks : (f : ℕ) → IsTrue (is_fork t f) → length (children t f) + times f fs ≡ 2
-  -- what hangs from a fork is a strand, and nothing else is, but for the root
+  -- a node other than the root is a strand just if it hangs from a fork
   pub strands : (n : ℕ) → n < length t → 0 < n → is_strand t n ≡ is_fork t (parent_of t n)
   pub parents : (n : ℕ) → n < length t → 0 < n → IsTrue (may_hold t (parent_of t n))
   pub untried : (n : ℕ) → n < length t → is_tried t n ≡ false

@@ -25,7 +25,7 @@ use Rattle.cw_tree.proofs.Walks.There.{strand_there}
 use Rattle.cw_record.proofs.Orders.Names.{names_differ, name_strand, name_of_strand, root_strand, without_added, last_added}
 use Rattle.cw_record.proofs.Walked.Found.{first_le, first_same, names_same, place_push, place_index, once_push}
 
--- of the strands of an order i were met; those found have names that no earlier one has, and these names have their places
+-- The first i strands of an order were met. Those found have names that no earlier one has, and these names have their places.
 pub record Listing (t : List Node) (order : List ℕ) (i : ℕ) (found : List ℕ) (places : List (Option ℕ)) : Type 0 where
   pub listed : map (name_of t) found ≡ once [] (map (name_of t) (take i order))
   pub strands : All (λ s. IsTrue (is_strand t s)) found

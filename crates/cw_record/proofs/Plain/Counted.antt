@@ -19,7 +19,7 @@ count_mono p i (suc j) h =
 pub count_rises : (p : ℕ → Bool) (i j : ℕ) → p i ≡ true → i < j → count p i < count p j
 count_rises p i j e h = let one : one_if (p i) ≡ 1 = ap one_if e in omega (arith, one, count_step p i, count_mono p (suc i) j (omega arith))
 
--- of two numbers that pass the same count comes before each only where they are one
+-- two numbers that pass are one if the same count comes before each
 pub count_apart : (p : ℕ → Bool) (i j : ℕ) → p i ≡ true → p j ≡ true → count p i ≡ count p j → i ≡ j
 count_apart p i j e f same =
     elim (cases_lt i j) [

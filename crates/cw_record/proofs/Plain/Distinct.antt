@@ -30,7 +30,7 @@ module _ (t : List Node) (w : IsNumbered t) (plain : (m : ℕ) → 0 < m → m <
       and_from (is_fork t (parent_of t s)) (nat_eq (strand_of t (parent_of t s)) (strand_of t (parent_of t s)))
       (sym (plain s x.some x.there).strand ∙ x.is) (eq-eqb (strand_of t (parent_of t s)) (strand_of t (parent_of t s)) refl)
 
-  -- of one fork strands on the same side are one
+  -- strands on the same side of one fork are one
   same_side : (s m : ℕ) → IsStrand s → IsStrand m → parent_of t s ≡ parent_of t m → nat_lt (parent_of t s + 1) s ≡ nat_lt (parent_of t m + 1) m → s ≡ m
   same_side s m x y e side =
       let l = low s x.some x.there in
@@ -48,7 +48,7 @@ module _ (t : List Node) (w : IsNumbered t) (plain : (m : ℕ) → 0 < m → m <
         ]
       ]
 
-  -- of one strand forks with the same number are one
+  -- forks of one strand with the same number are one
   same_fork : (s m : ℕ) → IsStrand s → IsStrand m → strand_of t (parent_of t s) ≡ strand_of t (parent_of t m) → fork_number t (parent_of t s) ≡ fork_number t (parent_of t m) → parent_of t s ≡ parent_of t m
   same_fork s m x y own e =
       let l = low s x.some x.there in

@@ -87,7 +87,7 @@ module _ (r : Record) where
   abbrev pub all : List OrderItem
   all = items r.tree r.conflicts r.limits.aborts r.end
 
-  -- So many items were done, and those that are left are done exactly where all are.
+  -- The first `place` items were done, and the remaining ones can be done just if all can.
   pub record Stands (play : Play) (place : ℕ) : Type 0 where
     pub machine : Machine StrandState
     pub is : IsPlay (job_of_record r) r.order.names play machine

@@ -1,4 +1,4 @@
--- The depth-first order is one: each pick is told by the machine before it, and so is where there is none.
+-- There is only one depth-first order: the machine before a pick determines that pick, and whether there is one.
 use Rattle.std.proofs.Common.{◌≡◌, List, ◌∷◌, refl, ap, sym, ◌∙◌, subst, Bool, true, false, cond, Option, Some, None}
 use Rattle.std.specs.Prelude.{option_map, is_some}
 use Rattle.cw_code.specs.declared.FaultKind.{FaultKind}

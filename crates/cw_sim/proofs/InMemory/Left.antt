@@ -138,7 +138,7 @@ module _ (first : List ℤ) (k : CoreState) (on : CoreGoesOn first k) where
     now : IsToldState first z.machine
     now = told_states at_once first z.machine (events first k e on.core fit).1.reached
 
-    -- a node came: but for that, no block is pending that was not, and without a new conflict the same strands are dying
+    -- a node came; no other block is pending that was not, and without a new conflict the same strands are dying
     module _ (node : Node) (is : IsMore k z node) where
       left : IsLeft m z.machine
       left = more_left k z whole node is

@@ -118,7 +118,7 @@ length_below (suc k) = length-append (below k) (k ∷ []) ∙ ap (λ n. n + 1) (
 length_after : (w count : ℕ) → length (workers_next w count) ≡ count - 1
 length_after w count = length-map (below (count - 1)) (λ i. (w + suc i) % count) ∙ length_below (count - 1)
 
--- of those after a worker, from the i-th on
+-- the workers that come after a worker, from the i-th on
 pub from_after : (w count i : ℕ) → 0 < i → i < count → drop (i - 1) (workers_next w count) ≡ (w + i) % count ∷ drop i (workers_next w count)
 from_after w count (suc i) some low =
     let few : i < length (workers_next w count) = omega (arith, length_after w count) in

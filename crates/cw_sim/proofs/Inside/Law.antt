@@ -22,7 +22,7 @@ stays_within : (w : Want) (n i : ℕ) → StaysIn w n → StaysIn w (n + suc i)
 stays_within End n i h = stays_some (n + suc i) (omega arith)
 stays_within w n i h = tt
 
--- and so many more are begun and not ended
+-- and afterwards as many more are begun and not ended
 inner_within : (w : Want) (n i : ℕ) → StaysIn w n → inner_after w (n + suc i) ≡ inner_after w n + suc i
 inner_within End zero i h = absurd h
 inner_within End (suc n) i h = omega arith

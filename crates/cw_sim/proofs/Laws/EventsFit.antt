@@ -90,7 +90,7 @@ module _ (first : List ℤ) (k : CoreState) (on : CoreGoesOn first k) (ws : List
     pub goes_finished : CoreGoesOn first z
     goes_finished = goes first k on x dead at.running at.ready fit
 
-    -- but for main, it is a strand of a fork
+    -- unless it is main, it is a strand of a fork
     module _ (some : 0 < x) where
       abbrev f : ℕ
       f = parent_of t x

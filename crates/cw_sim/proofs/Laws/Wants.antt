@@ -31,7 +31,7 @@ use Rattle.cw_sim.specs.HasWants.{HasWants}
 use Rattle.cw_sim.proofs.Kept.Levels.{levels, strand_levels, block_levels}
 use Rattle.cw_sim.proofs.Kept.Reaching.{end_reached}
 
--- ## What may be wanted with so many blocks
+-- ## What may be wanted with these numbers of blocks
 
 no_end : (w : Want) (bs : List ℕ) → w ≡ End → MayWant w (0 ∷ bs) → ⊥
 no_end w bs e may = let P : Want → Type 0 = λ v. MayWant v (0 ∷ bs) in subst P e may

@@ -70,7 +70,7 @@ module _ {A : Type 0} (s : Strands A) where
 
   -- ## A move that comes to a fault
 
-  -- worker w runs the strand, which may go on, and the core is told of it
+  -- worker w runs the strand, which may go on, and the core takes the fault
   pub record Faults (w : ℕ) (m z : Simulation A) (y : ℕ) (kind : FaultKind) : Type 0 where
     pub runs : (worker m w).runs ≡ Some y
     pub core : z.core ≡ after_event m.core (event.Stop (halt.Fault y kind))

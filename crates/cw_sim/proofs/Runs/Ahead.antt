@@ -54,7 +54,7 @@ pub ahead_all : (k : CoreState) (es : List Event) → AreAhead k.machine (steps_
 ahead_all k [] = tt
 ahead_all k (e ∷ es) = ahead_more k.machine (steps_of k e) (steps_of_all (after_event k e) es) (ahead_event k e) (ahead_all (after_event k e) es)
 
--- what events that fit come to is reached by a run that was told, and whose stamps were drawn in time
+-- a run in time, whose conflicts tell what was met, reaches the state after events that fit
 pub in_time : (first : List ℤ) (room budget : ℕ) (es : List Event) → 0 < room → IsTrue (all_fit (start first room budget) es)
     → ReachedInTime (as_told (λ t us w. newest us)) first (after_events (start first room budget) es).machine
 in_time first room budget es some fit =

@@ -1,4 +1,4 @@
--- Where a refused access spends the budget of its strand, or of that of its victim, what is told so stands as it was refused.
+-- If a refused access spends the budget of its strand, or of its victim's strand, what was refused is still as it was then.
 use Rattle.std.proofs.Common.{◌≡◌, ℕ, ◌<◌, List, [], ◌∷◌, ◌++◌, length, refl, ap, sym, ◌∙◌, subst, arith, Bool, true, false, cond, Option, Some, None, nat_eq}
 use Rattle.std.specs.Prelude.{◌&&◌, not, ℤ, All, option_map, unwrap_or, find}
 use Rattle.std.specs.List.{list_any}

@@ -8,7 +8,7 @@ use Rattle.cw_io.specs.declared.schedule.Schedule.TheVariants.{List as Listed, S
 use Rattle.cw_io.specs.Lcg.{drawn}
 use Rattle.cw_sim.specs.Turns.{state_after, worker_at, ListsWorkers}
 
--- of two numbers below k one is
+-- whichever of two numbers below k is taken is below k
 either : (b : Bool) (x y k : ℕ) → (b ≡ true → x < k) → y < k → cond b x y < k
 either true x y k f h = f refl
 either false x y k f h = h

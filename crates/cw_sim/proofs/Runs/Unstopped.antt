@@ -1,4 +1,4 @@
--- The moves of a simulation never stop it for want of memory; so of the record of moves it is told whether they came to an end.
+-- No move stops a simulation because memory ran out, so its record says whether the moves came to an end.
 use Rattle.std.proofs.Common.{◌≡◌, ◌∙◌, ◌∷◌, [], ℕ, zero, suc, ℤ, ◌==◌, ◌&&◌, ◌||◌, Bool, true, false, not, List, Option, Some, None, refl, sym}
 use Rattle.std.specs.Prelude.{◌↔◌, if◌then◌else◌, is_some}
 use Rattle.std.specs.Option.{option_map_or}

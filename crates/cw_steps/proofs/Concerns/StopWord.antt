@@ -1,4 +1,4 @@
--- Serves `StopWord`: the stop word and who was told, after a step of one seat.
+-- Serves `StopWord`: the stop word and who has learnt of it, after a step of one seat.
 use Rattle.std.proofs.Common.{◌≡◌, ℕ, ◌<◌, List, arith, ap, inl, inr, sym, ◌∙◌, set, subst, true}
 use Rattle.std.specs.Prelude.{◌⊎◌, slice_index, IsTrue, is_some}
 use Rattle.std.proofs.lemmas.Bool.Decides.{eqb_tells}
@@ -18,7 +18,7 @@ halted_set views id v w at kept h = elim (eqb_tells h.seat id) [
   | inr z ↦ record { seat = h.seat; knows = h.knows; there = set_else views id h.seat w z.1 ∙ h.there; halted = h.halted }
 ]
 
--- the stop word is set after the step only where it was before, or where this seat has halted; and it was told only what is so
+-- the stop word is set after the step only if it was before, or if this seat has halted; and the seat has learnt only what is so
 pub stops_set : (cells : ℕ) (words words' : List ℕ) (views : List View) (id : ℕ) (v w : View)
     → get_elem? views id ≡ some v → StopWord cells words views
     → (IsTrue (is_some v.halt) → IsTrue (is_some w.halt))

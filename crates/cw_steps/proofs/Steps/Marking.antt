@@ -65,7 +65,7 @@ stops_here key halt slots id me i e s h deep at bound = (
   (refl, refl),
 )
 
--- a look at a word changes nothing but what the seat was told
+-- a look at a word changes only what the seat has learnt
 module _ (key : Key) (id : ℕ) (me : Me Slot View) (i : ℕ) (beyond : cells_of key + 1 < i) where
   looks : (s : State Slot View) (h : Holds key s) → get_elem? s.views id ≡ some me.0 → (w : View) → w.room ≡ me.0.room → w.seen ≡ me.0.seen → w.turns ≡ me.0.turns → w.column ≡ me.0.column → w.gap ≡ me.0.gap
       → w.coming ≡ me.0.coming → w.outer ≡ me.0.outer → w.owns ≡ me.0.owns → StopWord (cells_of key) (set s.words i (slice_index s.words i)) (set s.views id w) → Holds key (stepped s i (slice_index s.words i) id me.1 w keeps)

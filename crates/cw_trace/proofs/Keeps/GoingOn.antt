@@ -114,7 +114,7 @@ module _ (c : ColumnTable) (words : List ℕ) (t : List Node) (cuts joins : List
   descends_less x y h (child p e) = let l = around_less y p h in omega (arith, e)
   descends_less x y h (further p w) = let l : around c y < y = around_less y p h in let z : x < around c y = descends_less x (around c y) (omega arith) w in omega arith
 
-  -- of two traces from which one descends, one descends from the other
+  -- if a trace descends from two, they are one trace, or one descends from the other
   descends_both : (a b y : ℕ) → Descends c a y → Descends c b y → (a ≡ b) ⊎ (Descends c a b ⊎ Descends c b a)
   descends_both a b y (child p e) (child q f) = inl (sym e ∙ f)
   descends_both a b y (child p e) (further q w) = inr (inr (let P : ℕ → Type 0 = λ z. Descends c b z in subst P e w))

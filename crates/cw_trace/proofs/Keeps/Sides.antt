@@ -76,7 +76,7 @@ module _ (t : List Node) (tr : IsTree t) where
         by_members x y q (inr u) (inl v) (inl w) = omega (arith, v, w)
         by_members x y q (inr u) (inl v) (inr w) = omega (arith, u, w)
 
-  -- of two strands of a fork the later is the right one
+  -- the later of two strands of a fork is the right one
   pub right_of : (a b : ℕ) → 0 < a → a < b → is_strand t a ≡ true → parent_of t a ≡ parent_of t b → is_right t b ≡ true
   right_of a b p l sa e = found b (has_below b a l) where
     found : (n : ℕ) → has (below n) a ≡ true → list_any (λ m. nat_lt 0 m && is_strand t m && nat_eq (parent_of t m) (parent_of t b)) (below n) ≡ true
@@ -102,7 +102,7 @@ module _ (t : List Node) (tr : IsTree t) where
         | inr z ↦ elim (Rattle.std.proofs.lemmas.Bool.or_cases (nat_eq w.1 n) false z) [ inl v ↦ ap (is_strand t) (sym (eqb-true _ _ v)) ∙ both.1 | inr v ↦ absurd (cc v) ]
       ]
 
-  -- of two strands of a fork the earlier is no right one
+  -- the earlier of two strands of a fork is no right one
   pub is_left : (a b f : ℕ) → is_fork t f ≡ true → a < b → b < length t → parent_of t a ≡ f → parent_of t b ≡ f → is_right t a ≡ true → ⊥
   is_left a b f e l h pa pb r =
       let z = any_found (λ m. nat_lt 0 m && is_strand t m && nat_eq (parent_of t m) (parent_of t a)) (below a) r in

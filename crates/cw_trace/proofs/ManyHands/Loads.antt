@@ -73,10 +73,10 @@ no_load_decides c first second words last asker none unloaded =
       by_up None q out = let Q : Option ℕ → Type 0 = λ x. TellsOfTree c words last asker (verdict_around c second asker x) in subst Q (sym q) (at_first c words words last asker false None (unread words) q)
       by_up (Some y) q out = let Q : Option ℕ → Type 0 = λ x. TellsOfTree c words last asker (verdict_around c second asker x) in subst Q (sym q) (by_stands y (stands_in c asker y) refl out q)
 
--- ## What is told of several moments
+-- ## Answers from several moments
 
 module _ (c : ColumnTable) (words : ℕ → List ℕ) (told : Read → Answer → Type 0) (is : IsToldOf c words told) where
-  -- columns stand, so what was told of them is held at each moment
+  -- columns do not change, so an answer about them holds at each moment
   stands_told : (n : ℕ) {i t : ℕ} {b : Bool} → IsWithinTrace told i t b → IsWithinTrace (HoldsRead c (words n)) i t b
   stands_told n (is_it h) = is_it (is _ _ h).1
   stands_told n (by_place h ne g) = by_place (is _ _ h).1 ne (is _ _ g).1

@@ -50,7 +50,7 @@ place_some a at place m e p q w = record {
 pub place_none : (a : Inside) (at place : Option ℕ) → at ≡ None → place ≡ None → Place a at place
 place_none a at place p q = record { there = λ x h. absurd (cc (q, h)); marks = p ∙ sym (ap (option_map (bracket_of a)) q) }
 
--- longer tables, of which each read is as before
+-- longer tables, with each read as before
 pub record HasReached (a d : Inside) : Type 0 where
   pub kept : AreBracketsInMemory d
   pub marks : marks_of d ≡ marks_of a

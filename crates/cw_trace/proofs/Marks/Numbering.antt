@@ -113,7 +113,7 @@ module _ (m : ℕ → ℕ) where
         skip : (y : ℕ) → has (e ∷ xs) y ≡ true → has (e ∷ x ∷ xs) y ≡ true
         skip y h = elim (has_cases e xs y h) [ inl q ↦ has_here e (x ∷ xs) y q | inr g ↦ has_later e (x ∷ xs) y (has_later x xs y g) ]
 
-  -- of two numbers the one that comes first has the mark that comes first
+  -- the first of two numbers has the first of their marks
   pub map_before : (xs : List ℕ) → IsDistinct nat_eq xs → Differ xs → (x y : ℕ) → has xs x ≡ true → has xs y ≡ true → (position xs x < position xs y) ↔ (stands_before (map m xs) (m x) (m y) ≡ true)
   map_before [] distinct d x y h g = absurd (cc h)
   map_before (z ∷ xs) distinct d x y h g =

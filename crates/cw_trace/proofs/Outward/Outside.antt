@@ -8,7 +8,7 @@ use Rattle.cw_trace.specs.Segments.{outward}
 use Rattle.cw_trace.proofs.Marks.Edits.{has_cons_same, has_cons_other}
 use Rattle.cw_trace.proofs.Segments.Lines.{left_of_odd, left_of_cases}
 
--- the same but for one fork
+-- the same without one fork
 abbrev pub except : ℕ → Option ℕ → Option ℕ
 except f None = None
 except f (Some s) = if s == f then None else Some s

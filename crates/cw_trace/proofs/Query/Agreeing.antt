@@ -1,4 +1,4 @@
--- Where all that was told is what one tier and gap words hold, the rules give what the tier and the words give.
+-- If all answers are what one tier and gap words hold, the rules give what the tier and the words give.
 use Rattle.std.proofs.Common.{◌≡◌, ℕ, refl, ap, sym, ◌∙◌, Bool, false, Option, Some, None, nat_lt, nat_eq, List, eq-eqb}
 use Rattle.std.specs.Prelude.{◌||◌, if◌then◌else◌}
 use Rattle.std.proofs.lemmas.Bool.{ne_eqb}
@@ -9,7 +9,7 @@ use Rattle.cw_trace.specs.Stands.{word_of}
 use Rattle.cw_trace.specs.Told.{Read, Answer, Owner, Number, HoldsRead, Stays}
 use Rattle.cw_trace.specs.Query.{came_before, LeadWord, no_lead, a_lead, HasWord, IsWithinTrace, is_it, by_place, GivesAround, free, around_within, around_against, Gives, own_within, own_against, around, Covers, same_trace, other_trace, stands_in, verdict_of, verdict_around, verdict, covers}
 
--- ## What was told stays told
+-- ## Answers that stay
 
 module _ {told later : Read → Answer → Type 0} (stays : Stays told later) where
   word_later : {o : Option ℕ} {w : ℕ} → LeadWord told o w → LeadWord later o w

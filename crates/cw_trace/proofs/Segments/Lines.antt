@@ -140,7 +140,7 @@ module _ (c : ColumnTable) (cuts joins : List ℕ) (pend : ℕ → Bool) (col : 
     by_cut true e = absurd (u (record { fork = o; cut = e }))
     by_cut false e = e
 
-  -- a strand of a trace after a start, but for the start's own right strand, was forked after it
+  -- a strand of a trace after a start was forked after it, unless it is the start's own right strand
   pub forked_after : (t r i : ℕ) → IsTrace c cuts joins t → SegmentStart c joins t r → i < used c → owner c i ≡ t → r < i → (IsOpen c joins t r → i ≢ r + 1) → r ≤ slice_index c.parents i
   forked_after t r i n w h e g ne = elim (made i h) [
     | first q ↦ absurd (omega (arith, q))

@@ -7,8 +7,8 @@ use cw_order::Steps;
 use std::marker::Model;
 use std::sync::ledger::Ledger;
 
-/// A tier as a query sees it: any number may be read, and each read costs ticks. Only this file sees the tier itself. So code made
-/// of these calls learns nothing of a column, or of which of two brackets comes first, without a tick. A number that names nothing
+/// A tier as a query sees it: any number may be read, and each read costs ticks. Only this file sees the tier itself. So without a
+/// tick, code made of these calls learns nothing of a column, nor which of two brackets comes first. A number that names nothing
 /// reads as 0, `None` or false.
 #[derive(Drop)]
 pub struct TierReader<'a> {

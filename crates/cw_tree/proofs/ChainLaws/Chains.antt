@@ -63,7 +63,7 @@ kept_onto : (t : List Node) (f : ℕ → ℕ) (b : Bool) (x : ℕ) (xs : List �
 kept_onto t f true x xs more onto = onto
 kept_onto t f false x xs more onto = more
 
--- of accesses that f names, those are taken out whose names do not pass
+-- accesses that f names stay a chain if some are taken out
 pub some_named : (t : List Node) → IsRooted t → (f : ℕ → ℕ) (p : ℕ → Bool) (xs : List ℕ) → AreThere t (map f xs) → IsChain t (map f xs) → IsChain t (map f (filter p xs))
 some_named t r f p [] h c = tt
 some_named t r f p (x ∷ xs) h c =
@@ -102,7 +102,7 @@ all_pass p (x ∷ xs) f =
       ap (λ b. cond (not b) (x ∷ filter (λ u. not (p u)) xs) (filter (λ u. not (p u)) xs)) here ∙ more.1,
     )
 
--- of accesses that f names
+-- among accesses that f names, those beneath a pending block come last
 pub beneath_named : (t : List Node) → IsRooted t → (b : ℕ) → is_pending t b ≡ true → (f : ℕ → ℕ) (xs : List ℕ) → AreThere t (map f xs) → IsChain t (map f xs)
     → xs ≡ filter (λ x. not (is_above t b (f x))) xs ++ filter (λ x. is_above t b (f x)) xs
 beneath_named t r b pending f [] h c = refl

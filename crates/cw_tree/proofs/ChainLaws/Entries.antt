@@ -62,7 +62,7 @@ module _ (t : List Node) (n : ℕ) (x : Node) (is : slice_get t n ≡ Some x) wh
   read_at k q = ap (value_in read_kind) is ∙ ap read_kind q
 
   module _ (c : ℕ) (w : ℤ) (e : Entry) where
-    -- of a read that met its value
+    -- the entry of a read that met its value
     pub entry_read : x.kind ≡ Read c w → Notes e x.stamp false w w → IsEntry t w n e
     entry_read q note = record {
       stamp = note.stamp ∙ sym (ap (number_in (λ y. y.stamp)) is);
@@ -72,7 +72,7 @@ module _ (t : List Node) (n : ℕ) (x : Node) (is : slice_get t n ≡ Some x) wh
       read = λ y z. sym (same_Some w y (sym (read_at (Read c w) q) ∙ z));
     }
 
-    -- of a write
+    -- the entry of a write
     pub entry_written : (v : ℤ) → x.kind ≡ Write c v → Notes e x.stamp true v w → IsEntry t w n e
     entry_written v q note = record {
       stamp = note.stamp ∙ sym (ap (number_in (λ y. y.stamp)) is);

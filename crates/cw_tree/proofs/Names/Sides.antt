@@ -25,7 +25,7 @@ forked_more t n x =
     ∙ list_any-append (is_branch t x) (below n) (n ∷ [])
     ∙ ap (λ b. is_forked t n x || b) (or-false (is_branch t x n))
 
--- the strands below n are told apart, and for each node it is known whether one of them is its child
+-- the side of each strand below n is known, and for each node whether one of them is its child
 pub record Told (t : List Node) (n : ℕ) (sides forked : List Bool) : Type 0 where
   pub some : 0 < n
   pub len : length sides ≡ length t

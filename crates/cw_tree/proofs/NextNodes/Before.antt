@@ -50,7 +50,7 @@ module _ (t : List Node) (x : Node) (r : IsRooted t) (there : x.parent < length 
   pub old_before : (n k : ℕ) → n < g → k < g → is_before u n k ≡ true → is_before t n k ≡ true
   old_before = before_to u t g (agree_back t u g m.agree) m.rooted
 
-  -- of the new node's ancestors all but itself are its parent's
+  -- the ancestors of the new node, except itself, are those of its parent
   pub over_parent : (a : ℕ) → g ≢ a → is_ancestor u a g ≡ is_ancestor t a x.parent
   over_parent a ne = ancestor_new t x r there a ∙ ap (λ b. b || is_ancestor t a x.parent) (ne_eqb g a ne)
 

@@ -95,7 +95,7 @@ module _ (t : List Node) (r : IsRooted t) (s : AreStamps t) (p : ℕ) (there : p
       let z = (next some).1.begun b h was in
       omega (arith, z, old_stamp b h, new_stamp)
 
-  -- it is before no node, but for one without a stamp
+  -- it is before no node, except one without a stamp
   new_earlier : (n : ℕ) → n < g → is_before u g n ≡ true → 0 < stamp_of u n → (stamp_of u g < stamp_of u n) × (end_of u g < stamp_of u n)
   new_earlier n h e some =
       elim (cases_lt 0 stamp) [

@@ -28,7 +28,7 @@ module _ (t : List Node) (r : IsRooted t) where
   pub above_parent : (a n : ℕ) → 0 < n → n < length t → is_above t a n ≡ is_ancestor t a (parent_of t n)
   above_parent a n p h = ap (λ ns. has (Rattle.std.proofs.Common.drop 1 ns) a) (path_step t r n p h)
 
-  -- of a node's ancestors, all but the node itself are its parent's
+  -- the ancestors of a node, except itself, are those of its parent
   pub ancestor_step : (a n : ℕ) → 0 < n → n < length t → n ≢ a → is_ancestor t a n ≡ is_ancestor t a (parent_of t n)
   ancestor_step a n p h ne = ancestor_above t a n ne ∙ above_parent a n p h
 

@@ -75,7 +75,7 @@ before_of t n m s =
     (any_from (are_ordered t s.first) s.second (path t m) (ancestor_in t s.second m s.over_second) (ordered_of t s.first s.second s.ordered))
 
 module _ (t : List Node) (r : IsRooted t) where
-  -- of two ancestors of a node the one with the smaller number is an ancestor of the other
+  -- if two nodes are ancestors of a node, the one with the smaller number is an ancestor of the other
   pub ancestor_linear : (a b n : ℕ) → n < length t → is_ancestor t a n ≡ true → is_ancestor t b n ≡ true → a ≤ b → is_ancestor t a b ≡ true
   ancestor_linear a b n h =
       by_parent t r (λ n. is_ancestor t a n ≡ true → is_ancestor t b n ≡ true → a ≤ b → is_ancestor t a b ≡ true)

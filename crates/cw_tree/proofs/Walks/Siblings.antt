@@ -22,7 +22,7 @@ use Rattle.cw_tree.proofs.Rising.{below_rises, rises_filter, rises_map, rises_sa
 -- ## Children
 
 module _ (t : List Node) (r : IsRooted t) where
-  -- of two children of one node the one with the smaller number is met first
+  -- if two nodes are children of one, the one with the smaller number is met first
   walk_ahead : (k n m c d : ℕ) → length t ≤ n + k → In m (walk t k n) → IsChild t m c → IsChild t m d → c < d → Ahead c d (walk t k n)
   walk_ahead zero n m c d h (inl e) x y l = let low : parent_of t c < c = r c x.some x.there in absurd (let there = x.there in let same = x.parent in omega arith)
   walk_ahead zero n m c d h (inr z) x y l = absurd z

@@ -333,7 +333,7 @@ fn all_called<N: Naming, R: Wait>(
     Ok(taken(cast, 0)?)
 }
 
-/// Makes the calls, of which the first strand is the root.
+/// Makes the calls; the first strand is the root.
 fn plays<N: Naming, R: Wait>(
     rt: &R,
     alloc: Global,

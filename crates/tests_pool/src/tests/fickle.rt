@@ -28,7 +28,7 @@ const ODDS: Odds = Odds {
 // The number of seeds for each number of workers. On a busy machine a run may take a hundredth of a second.
 const SEEDS: u64 = 100;
 
-// No refusals: with so many nested blocks, refusals would keep rolling them back before the innermost is reached.
+// No refusals: blocks are nested so deep that refusals would keep rolling them back before the innermost is reached.
 const NEVER: Odds = Odds { refused: 0, ..ODDS };
 
 // How a run ended.

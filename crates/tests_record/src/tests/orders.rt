@@ -42,7 +42,7 @@ pub fn ordered(
     Ok(order_of(alloc, tree, conflicts, budget, end)?)
 }
 
-// Two parallel committed blocks, of which the later one ends first; a block that was rolled back; and two pending blocks, one
+// Two parallel committed blocks, and the later one ends first; a block that was rolled back; and two pending blocks, one
 // inside the other. Each has an output.
 fn apart(alloc: Global) -> Result<Tree, Fail> {
     let nodes: &[(u32, Bud<'_>, u64)] = &[

@@ -2,7 +2,7 @@ use Rattle.std.proofs.Common.{length, take, ◌-◌, ◌≤◌}
 use Rattle.cw_io.specs.Outside.{Appends, KeepsTelling}
 use Rattle.cw_io.proofs.sink.write_all.Given as goal
 
--- what was written so far, that it is told still, and that the count of faults did not fall
+-- what was written so far, that the sink goes on telling it, and that the count of faults did not fall
 abbrev pub invariant-loop-done : goal.invariant-loop-done
 invariant-loop-done g l = record {
   within : l.done ≤ length l.text;

@@ -34,7 +34,7 @@ use Rattle.cw_replay.proofs.RecordsReplay.Ordered.Runs.{Run, series_leads}
 
 -- ## Lists
 
--- of two that stand in a list once, not each is ahead of the other
+-- two elements that a list has once are not each ahead of the other
 pub one_way : {X : Type 0} (a b : X) (xs : List X) → Apart xs → Ahead a b xs → Ahead b a xs → ⊥
 one_way a b [] d h g = h
 one_way {X} a b (x ∷ xs) d (inl z) (inl y) = let P : X → Type 0 = λ v. In v xs in d.0 (subst P y.0 z.1)

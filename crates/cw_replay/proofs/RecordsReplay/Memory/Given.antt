@@ -329,7 +329,7 @@ module _ {A : Type 0} (s : Strands A) (t : List Node) (p : ℕ) (r : Run s t p) 
   abbrev Good : ℕ → List ℤ → Type 0
   Good m memory = (c v : ℕ) → c < length first → In v (live_accesses t c) → is_above t m v ≡ true → value_at memory c ≡ cell_value (start s t p r first kept cs h c) (map (written t) (before_block t m (live_accesses t c)))
 
-  -- of the innermost begun block: what stands in front of its begin, and its items so far
+  -- for the innermost begun block: what is in front of its begin, and its items so far
   record Head (m : ℕ) (front done : List OrderItem) (since : List Since) : Type 0 where
     base : List OrderItem
     is_front : front ≡ base ++ Begins m ∷ done

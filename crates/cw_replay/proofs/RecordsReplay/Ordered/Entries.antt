@@ -122,7 +122,7 @@ module _ (t : List Node) (p : ℕ) (g : Laid t p) where
     by ne (inr (inl k)) = absurd (block (committed_sort t m k).block ne)
     by ne (inr (inr k)) = absurd (block (pending_sort t m k.0).block ne)
 
-  -- of one node two entries of a level are not both over
+  -- no two entries of a level are over one node
   pub one_entry : (b : Option ℕ) (m n x : ℕ) → Entry b m → Entry b n → x < length t → is_ancestor t m x ≡ true → is_ancestor t n x ≡ true → m ≡ n
   one_entry b m n x e f h o q = elim (either_over t g.tree.rooted m n x h o q) [ inl y ↦ entries_apart b m n e f y | inr y ↦ sym (entries_apart b n m f e y) ]
 

@@ -107,7 +107,7 @@ module _ {A : Type 0} (s : Strands A) (t : List Node) (p : ℕ) (r : Run s t p) 
   act_alone m h (to_end b q x ne) = absurd (cc q)
   act_alone m h (to_stop b q x ne) = absurd (cc q)
 
-  -- two entries, of which items are in series, are so themselves
+  -- two entries are in series if an item of one and an item of the other are
   parted : (b : Option ℕ) (m n : ℕ) (i j : OrderItem) → Entry t p r.laid b m → Entry t p r.laid b n → (m ≡ n → ⊥) → Over t p r.laid m i → Over t p r.laid n j → Soon (item i) (item j) → is_before t m n ≡ true
   parted b m n i j e f ne a c (in_series x y o u v) = before_of t m n (record { first = x; second = y; ordered = o; over_first = first_over; over_second = second_over }) where
     low : x < length t

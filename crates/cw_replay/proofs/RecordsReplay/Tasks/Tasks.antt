@@ -36,7 +36,7 @@ module _ (z : Stop) where
   abbrev pub stopping : ℕ → Work Act → Work Act
   stopping n w = cond (z.at n) (act (stop n) w) w
 
-  -- of a node: with what is in it, what each strand of it does, and its children
+  -- the work of a node, given the work inside it, what each strand of it does, and its children
   abbrev pub work_kind : (Work Act → Work Act) → (ℕ → Work Act) → List ℕ → ℕ → Kind → BlockState → Work Act → Work Act
   work_kind inner strand cs n Strand b w = w
   work_kind inner strand cs n Fork b w = both strand cs w

@@ -72,7 +72,7 @@ module _ {I A : Type 0} (u : Doing I A) where
   Over a (act i w) = Over (u.law.answer a (u.given i)) w
   Over a (split l r w) = (u.law.want a ≡ want.Fork) × Over (u.law.left a) l × Over (u.law.right a) r × Over (u.law.joined (fold (u.law.right a) r) (fold (u.law.left a) l)) w
 
-  -- a strand of that name, with so many forks, wants just this
+  -- a strand with the name q, which has made k forks, wants just this
   abbrev pub Fits : List Turn → ℕ → A → Work I → Type 0
   Fits q k a nil = Unit {0}
   Fits q k a (act i w) = (u.law.want a ≡ u.wanted i) × (u.name i ≡ q) × Fits q k (u.law.answer a (u.given i)) w

@@ -1,4 +1,4 @@
--- The worker is as it was, but for what it runs.
+-- The worker is as it was, except for what it runs.
 use Rattle.std.proofs.Common.{◌<◌, length, refl, arith}
 use Rattle.cw_sim.proofs.InMemory.Workers.{changed_in}
 use Rattle.cw_sim.proofs.worker.with_run.Goals as goal

@@ -1,4 +1,4 @@
--- The core gives up the block, and the strand is told what to put back.
+-- The core gives up the block, and the strand learns what to put back.
 use Rattle.std.proofs.lemmas.Result.{on_ok_weaker}
 use Rattle.cw_core.specs.declared.event.Event.TheVariants as event
 use Rattle.cw_sim.specs.Moves.{does}
