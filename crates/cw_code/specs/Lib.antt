@@ -5,4 +5,5 @@ pub mod Nested
 pub mod Answers
 pub mod Printed
 pub mod Programs
+pub mod Ranges
 pub mod Worked

@@ -1,9 +1,10 @@
 //! What compiled code is: its instructions and their table, the rules that it keeps, its text, and programs. The crate
-//! also has plain types that several layers share: run faults, limits, cells. Use `verify` to have code checked against
-//! the rules.
+//! also has plain types that several layers share: run faults, limits with their ranges, cells. Use `verify` to have code
+//! checked against the rules.
 //! Contracts cite `specs/Table.antt` (instructions), `specs/Rules.antt` (the rules, as the list of what is broken),
 //! `specs/Answers.antt` (what the verifier returns), `specs/Nested.antt` (how it keeps situations),
-//! `specs/Printed.antt` (texts) and `specs/Programs.antt` (programs). `Worked` tries them.
+//! `specs/Printed.antt` (texts), `specs/Programs.antt` (programs) and `specs/Ranges.antt` (ranges and defaults of
+//! numeric options). `Worked` tries them.
 #![tactic(auto)]
 
 ghost use Rattle.cw_code.specs.Worked.{Verdicts, Texts};
@@ -15,6 +16,7 @@ mod judging;
 mod nestings;
 mod print;
 mod program;
+mod ranges;
 mod situation;
 mod table;
 mod verified;
@@ -24,6 +26,10 @@ pub use effects::{Effect, Operator};
 pub use instruction::{Code, CodeFault, CodeKind, Func, Instr};
 pub use print::print_code;
 pub use program::Program;
+pub use ranges::{
+    ABORTS, FUEL, MOVES, NumberRange, SIZE, STRANDS, WORKERS, constants_are_ranges_of_options,
+    default_limits,
+};
 pub use table::{Operands, Row, TABLE, effect_at, look_up, row_at};
 pub use verified::{CodeRefusal, Verified, verify};
 

@@ -17,7 +17,8 @@ use Rattle.cw_report.specs.Results.{finished_text}
 use Rattle.cw_gen.specs.Load.{load_tree}
 use Rattle.cw_words.specs.declared.command.Command.{Command}
 use Rattle.cw_words.specs.declared.command.Command.TheVariants.{Run, Sim, Load}
-use Rattle.cw_words.specs.Words.{default_limits, limits_of, words_of}
+use Rattle.cw_words.specs.Words.{limits_of, words_of}
+use Rattle.cw_code.specs.Ranges.{default_limits}
 use Rattle.cw_top.specs.declared.outcome.Note.{Note}
 use Rattle.cw_top.specs.declared.outcome.Note.TheVariants as note
 use Rattle.cw_top.specs.Outcome.{IsStatus, status_of_end}

@@ -7,8 +7,9 @@ use Rattle.cw_code.specs.declared.Limits.{Limits}
 use Rattle.cw_io.specs.declared.schedule.Schedule.TheVariants.{List as Listed, Seeded}
 use Rattle.cw_sim.specs.Turns.{ListsWorkers}
 use Rattle.cw_words.specs.declared.command.Command.TheVariants.{Load}
-use Rattle.cw_words.specs.Options.{Given, GivenOption, NumberOption, are_known, given, integers_of, list_below, number_in, number_given, number_within, numbers_below, sole_word, parts_of, option_value}
-use Rattle.cw_words.specs.Words.{aborts_option, command_of, fuel_option, limits_given, load_given, load_options, most_transfers, transfers_given, moves_option, report_given, run_given, run_options, schedule_given, schedule_in, sim_given, sim_options, size_option, strands_option, workers_option, most_listed}
+use Rattle.cw_code.specs.Ranges.{NumberOption, aborts_option, fuel_option, moves_option, size_option, strands_option, workers_option}
+use Rattle.cw_words.specs.Options.{Given, GivenOption, are_known, given, integers_of, list_below, number_in, number_given, number_within, numbers_below, sole_word, parts_of, option_value}
+use Rattle.cw_words.specs.Words.{command_of, limits_given, load_given, load_options, most_transfers, transfers_given, report_given, run_given, run_options, schedule_given, schedule_in, sim_given, sim_options, most_listed}
 use Rattle.cw_top.specs.Runs.{IsReady}
 
 -- ## Values that may be missing

@@ -15,7 +15,8 @@ use Rattle.cw_report.specs.Results.{finished_text}
 use Rattle.cw_gen.specs.Load.{load_tree}
 use Rattle.cw_words.specs.declared.command.Command.{Command}
 use Rattle.cw_words.specs.declared.command.Command.TheVariants.{Run, Sim, Load}
-use Rattle.cw_words.specs.Words.{default_limits, words_of, limits_of}
+use Rattle.cw_words.specs.Words.{words_of, limits_of}
+use Rattle.cw_code.specs.Ranges.{default_limits}
 use Rattle.cw_top.specs.Refusals.{newest_language}
 use Rattle.cw_top.specs.Written.{summary_text}
 

@@ -12,7 +12,8 @@ use Rattle.cw_replay.specs.Spawning.{any_spawns}
 use Rattle.cw_gen.specs.Load.{load_tree}
 use Rattle.cw_words.specs.declared.command.Command.{Command}
 use Rattle.cw_words.specs.declared.command.Command.TheVariants.{Load}
-use Rattle.cw_words.specs.Words.{default_limits, words_of, limits_of}
+use Rattle.cw_words.specs.Words.{words_of, limits_of}
+use Rattle.cw_code.specs.Ranges.{default_limits}
 use Rattle.cw_top.specs.Refusals.{newest_language}
 
 -- A run of these declarations, with these words and limits. One memory runs their strands in the order that is kept. At each step

@@ -12,6 +12,7 @@ use Rattle.clap.specs.Words.{fault_of, subcommand_of}
 use Rattle.clap.specs.Walk.{rows_after}
 use Rattle.cw_io.specs.declared.schedule.Schedule.{Schedule}
 use Rattle.cw_code.specs.declared.Limits.{Limits}
+use Rattle.cw_code.specs.Ranges.{aborts_option, fuel_option, moves_option, size_option, strands_option, workers_option}
 use Rattle.cw_words.specs.declared.command.Command.{Command}
 use Rattle.std.proofs.Common.{drop}
 use Rattle.std.specs.List.{after_first, before_first}
@@ -34,21 +35,21 @@ abbrev IsValued : List GivenOption → Values → Type 0
 IsValued os val = (j : Text) → bytes_eq (codes "words") j ≡ false → option_value j os ≡ Some (val j)
 
 limits_same : (os : List GivenOption) (val : Values) → IsValued os val
-    → words.limits_given os ≡ limits_from (number_in words.fuel_option (val (codes "fuel"))) (number_in words.size_option (val (codes "size"))) (number_in words.aborts_option (val (codes "aborts"))) (number_in words.strands_option (val (codes "strands"))) (number_in words.moves_option (val (codes "moves")))
+    → words.limits_given os ≡ limits_from (number_in fuel_option (val (codes "fuel"))) (number_in size_option (val (codes "size"))) (number_in aborts_option (val (codes "aborts"))) (number_in strands_option (val (codes "strands"))) (number_in moves_option (val (codes "moves")))
 limits_same os val e =
-    λ i. limits_from (option_and_then (number_in words.fuel_option) (e (codes "fuel") refl i)) (option_and_then (number_in words.size_option) (e (codes "size") refl i)) (option_and_then (number_in words.aborts_option) (e (codes "aborts") refl i)) (option_and_then (number_in words.strands_option) (e (codes "strands") refl i)) (option_and_then (number_in words.moves_option) (e (codes "moves") refl i))
+    λ i. limits_from (option_and_then (number_in fuel_option) (e (codes "fuel") refl i)) (option_and_then (number_in size_option) (e (codes "size") refl i)) (option_and_then (number_in aborts_option) (e (codes "aborts") refl i)) (option_and_then (number_in strands_option) (e (codes "strands") refl i)) (option_and_then (number_in moves_option) (e (codes "moves") refl i))
 
 pub run_same : (g : Given) (val : Values) → are_known run_options g.options ≡ true → IsValued g.options val → run_given g ≡ run_at val g.words
 run_same g val k e =
-    λ i. if k i then run_from (limits_same g.options val e i) (option_and_then words.report_in (e (codes "report") refl i)) (option_and_then (number_in words.workers_option) (e (codes "workers") refl i)) (integers_of g.words) else None
+    λ i. if k i then run_from (limits_same g.options val e i) (option_and_then words.report_in (e (codes "report") refl i)) (option_and_then (number_in workers_option) (e (codes "workers") refl i)) (integers_of g.words) else None
 
 pub sim_same : (g : Given) (val : Values) → are_known sim_options g.options ≡ true → IsValued g.options val → sim_given g ≡ sim_at val g.words
 sim_same g val k e =
-    λ i. if k i then sim_from (limits_same g.options val e i) (option_and_then words.report_in (e (codes "report") refl i)) (option_and_then (number_in words.workers_option) (e (codes "workers") refl i))
+    λ i. if k i then sim_from (limits_same g.options val e i) (option_and_then words.report_in (e (codes "report") refl i)) (option_and_then (number_in workers_option) (e (codes "workers") refl i))
     (λ w. option_and_then (λ list. option_and_then (λ seed. words.schedule_in w list seed) (e (codes "seed") refl i)) (e (codes "schedule") refl i)) (integers_of g.words) else None
 
 pub load_same : (g : Given) (val : Values) → are_known load_options g.options ≡ true → IsValued g.options val → load_given g ≡ load_asked val g.words
-load_same g val k e = λ i. if k i then load_from (option_and_then (number_in words.workers_option) (e (codes "workers") refl i)) (transfers_at g.words) else None
+load_same g val k e = λ i. if k i then load_from (option_and_then (number_in workers_option) (e (codes "workers") refl i)) (transfers_at g.words) else None
 
 first_vals : (j : Text) (rows : List Row) → slice_get (vals j rows) 0 ≡ first_of j rows
 first_vals j rows = go (find (λ r. bytes_eq r.id j) rows)
@@ -108,22 +109,22 @@ abbrev Twice : Type 0
 Twice = Option (Option Text)
 
 limits_none : (a b c d m : Twice) → (is_some a && (is_some b && (is_some c && is_some d))) ≡ false
-    → limits_from (option_and_then (number_in words.fuel_option) a) (option_and_then (number_in words.size_option) b) (option_and_then (number_in words.aborts_option) c) (option_and_then (number_in words.strands_option) d) (option_and_then (number_in words.moves_option) m) ≡ None
+    → limits_from (option_and_then (number_in fuel_option) a) (option_and_then (number_in size_option) b) (option_and_then (number_in aborts_option) c) (option_and_then (number_in strands_option) d) (option_and_then (number_in moves_option) m) ≡ None
 limits_none None b c d m h = refl
-limits_none (Some a) None c d m h = second (number_in words.fuel_option a)
+limits_none (Some a) None c d m h = second (number_in fuel_option a)
   where
-    second : (x : Option ℕ) → limits_from x None (option_and_then (number_in words.aborts_option) c) (option_and_then (number_in words.strands_option) d) (option_and_then (number_in words.moves_option) m) ≡ None
+    second : (x : Option ℕ) → limits_from x None (option_and_then (number_in aborts_option) c) (option_and_then (number_in strands_option) d) (option_and_then (number_in moves_option) m) ≡ None
     second None = refl
     second (Some n) = refl
-limits_none (Some a) (Some b) None d m h = third (number_in words.fuel_option a) (number_in words.size_option b)
+limits_none (Some a) (Some b) None d m h = third (number_in fuel_option a) (number_in size_option b)
   where
-    third : (x y : Option ℕ) → limits_from x y None (option_and_then (number_in words.strands_option) d) (option_and_then (number_in words.moves_option) m) ≡ None
+    third : (x y : Option ℕ) → limits_from x y None (option_and_then (number_in strands_option) d) (option_and_then (number_in moves_option) m) ≡ None
     third None y = refl
     third (Some n) None = refl
     third (Some n) (Some k) = refl
-limits_none (Some a) (Some b) (Some c) None m h = fourth (number_in words.fuel_option a) (number_in words.size_option b) (number_in words.aborts_option c)
+limits_none (Some a) (Some b) (Some c) None m h = fourth (number_in fuel_option a) (number_in size_option b) (number_in aborts_option c)
   where
-    fourth : (x y z : Option ℕ) → limits_from x y z None (option_and_then (number_in words.moves_option) m) ≡ None
+    fourth : (x y z : Option ℕ) → limits_from x y z None (option_and_then (number_in moves_option) m) ≡ None
     fourth None y z = refl
     fourth (Some n) None z = refl
     fourth (Some n) (Some k) None = refl
@@ -142,18 +143,18 @@ run_workers (Some l) (Some r) n = refl
 pub load_missing : (g : Given) → list_all (λ n. is_some (option_value n g.options)) load_options ≡ false → load_given g ≡ None
 load_missing g h = go (are_known load_options g.options) (option_value (codes "workers") g.options) h
   where
-    go : (k : Bool) (w : Twice) → (is_some w && true) ≡ false → (if k then load_from (option_and_then (number_in words.workers_option) w) (transfers_at g.words) else None) ≡ None
+    go : (k : Bool) (w : Twice) → (is_some w && true) ≡ false → (if k then load_from (option_and_then (number_in workers_option) w) (transfers_at g.words) else None) ≡ None
     go false w h = refl
     go true None h = refl
     go true (Some w) h = absurd (true≢false h)
 
 pub load_unknown : (g : Given) → are_known load_options g.options ≡ false → load_given g ≡ None
-load_unknown g k = ap (λ t. if t then load_from (option_and_then (number_in words.workers_option) (option_value (codes "workers") g.options)) (transfers_at g.words) else None) k
+load_unknown g k = ap (λ t. if t then load_from (option_and_then (number_in workers_option) (option_value (codes "workers") g.options)) (transfers_at g.words) else None) k
 
 abbrev run_parts : Bool → (f s a st m w r : Twice) → List Text → Option Command
 run_parts k f s a st m w r ws =
-    if k then run_from (limits_from (option_and_then (number_in words.fuel_option) f) (option_and_then (number_in words.size_option) s) (option_and_then (number_in words.aborts_option) a) (option_and_then (number_in words.strands_option) st) (option_and_then (number_in words.moves_option) m))
-    (option_and_then words.report_in r) (option_and_then (number_in words.workers_option) w) (integers_of ws) else None
+    if k then run_from (limits_from (option_and_then (number_in fuel_option) f) (option_and_then (number_in size_option) s) (option_and_then (number_in aborts_option) a) (option_and_then (number_in strands_option) st) (option_and_then (number_in moves_option) m))
+    (option_and_then words.report_in r) (option_and_then (number_in workers_option) w) (integers_of ws) else None
 
 pub run_unknown : (g : Given) → are_known run_options g.options ≡ false → run_given g ≡ None
 run_unknown g k =
@@ -168,11 +169,11 @@ run_missing g h =
     go : (k : Bool) (f s a st m w r : Twice) → (is_some f && (is_some s && (is_some a && (is_some st && (is_some w && (is_some r && true)))))) ≡ false → run_parts k f s a st m w r g.words ≡ None
     go false f s a st m w r h = refl
     go true None s a st m w r h = refl
-    go true (Some f) None a st m w r h = ap (λ l. run_from l (option_and_then words.report_in r) (option_and_then (number_in words.workers_option) w) (integers_of g.words)) (limits_none (Some f) None a st m refl)
-    go true (Some f) (Some s) None st m w r h = ap (λ l. run_from l (option_and_then words.report_in r) (option_and_then (number_in words.workers_option) w) (integers_of g.words)) (limits_none (Some f) (Some s) None st m refl)
-    go true (Some f) (Some s) (Some a) None m w r h = ap (λ l. run_from l (option_and_then words.report_in r) (option_and_then (number_in words.workers_option) w) (integers_of g.words)) (limits_none (Some f) (Some s) (Some a) None m refl)
-    go true (Some f) (Some s) (Some a) (Some st) m None r h = run_workers (limits_from (option_and_then (number_in words.fuel_option) (Some f)) (option_and_then (number_in words.size_option) (Some s)) (option_and_then (number_in words.aborts_option) (Some a)) (option_and_then (number_in words.strands_option) (Some st)) (option_and_then (number_in words.moves_option) m)) (option_and_then words.report_in r) (integers_of g.words)
-    go true (Some f) (Some s) (Some a) (Some st) m (Some w) None h = run_report (limits_from (option_and_then (number_in words.fuel_option) (Some f)) (option_and_then (number_in words.size_option) (Some s)) (option_and_then (number_in words.aborts_option) (Some a)) (option_and_then (number_in words.strands_option) (Some st)) (option_and_then (number_in words.moves_option) m)) (option_and_then (number_in words.workers_option) (Some w)) (integers_of g.words)
+    go true (Some f) None a st m w r h = ap (λ l. run_from l (option_and_then words.report_in r) (option_and_then (number_in workers_option) w) (integers_of g.words)) (limits_none (Some f) None a st m refl)
+    go true (Some f) (Some s) None st m w r h = ap (λ l. run_from l (option_and_then words.report_in r) (option_and_then (number_in workers_option) w) (integers_of g.words)) (limits_none (Some f) (Some s) None st m refl)
+    go true (Some f) (Some s) (Some a) None m w r h = ap (λ l. run_from l (option_and_then words.report_in r) (option_and_then (number_in workers_option) w) (integers_of g.words)) (limits_none (Some f) (Some s) (Some a) None m refl)
+    go true (Some f) (Some s) (Some a) (Some st) m None r h = run_workers (limits_from (option_and_then (number_in fuel_option) (Some f)) (option_and_then (number_in size_option) (Some s)) (option_and_then (number_in aborts_option) (Some a)) (option_and_then (number_in strands_option) (Some st)) (option_and_then (number_in moves_option) m)) (option_and_then words.report_in r) (integers_of g.words)
+    go true (Some f) (Some s) (Some a) (Some st) m (Some w) None h = run_report (limits_from (option_and_then (number_in fuel_option) (Some f)) (option_and_then (number_in size_option) (Some s)) (option_and_then (number_in aborts_option) (Some a)) (option_and_then (number_in strands_option) (Some st)) (option_and_then (number_in moves_option) m)) (option_and_then (number_in workers_option) (Some w)) (integers_of g.words)
     go true (Some f) (Some s) (Some a) (Some st) m (Some w) (Some r) h = absurd (true≢false h)
 
 limits_moves : (a b c d : Option ℕ) → limits_from a b c d None ≡ None
@@ -198,14 +199,14 @@ sim_schedule (Some l) (Some r) None n = refl
 sim_schedule (Some l) (Some r) (Some w) n = refl
 
 abbrev sim_limits : (f s a st m : Twice) → Option Limits
-sim_limits f s a st m = limits_from (option_and_then (number_in words.fuel_option) f) (option_and_then (number_in words.size_option) s) (option_and_then (number_in words.aborts_option) a) (option_and_then (number_in words.strands_option) st) (option_and_then (number_in words.moves_option) m)
+sim_limits f s a st m = limits_from (option_and_then (number_in fuel_option) f) (option_and_then (number_in size_option) s) (option_and_then (number_in aborts_option) a) (option_and_then (number_in strands_option) st) (option_and_then (number_in moves_option) m)
 
 abbrev sim_turns : (list seed : Twice) → ℕ → Option Schedule
 sim_turns list seed w = option_and_then (λ l. option_and_then (λ s. words.schedule_in w l s) seed) list
 
 abbrev sim_parts : Bool → Option Limits → (w list seed r : Twice) → List Text → Option Command
 sim_parts k l w list seed r ws =
-    if k then sim_from l (option_and_then words.report_in r) (option_and_then (number_in words.workers_option) w) (sim_turns list seed) (integers_of ws) else None
+    if k then sim_from l (option_and_then words.report_in r) (option_and_then (number_in workers_option) w) (sim_turns list seed) (integers_of ws) else None
 
 pub sim_unknown : (g : Given) → are_known sim_options g.options ≡ false → sim_given g ≡ None
 sim_unknown g k =
@@ -222,7 +223,7 @@ sim_missing g h =
   where
     limited : (k : Bool) (l : Option Limits) (w list seed r : Twice) → l ≡ None → sim_parts k l w list seed r g.words ≡ None
     limited false l w list seed r e = refl
-    limited true l w list seed r e = ap (λ x. sim_from x (option_and_then words.report_in r) (option_and_then (number_in words.workers_option) w) (sim_turns list seed) (integers_of g.words)) e
+    limited true l w list seed r e = ap (λ x. sim_from x (option_and_then words.report_in r) (option_and_then (number_in workers_option) w) (sim_turns list seed) (integers_of g.words)) e
 
     go : (k : Bool) (f s a st m w list seed r : Twice)
         → (is_some f && (is_some s && (is_some a && (is_some st && (is_some m && (is_some w && (is_some list && (is_some seed && (is_some r && true))))))))) ≡ false → sim_parts k (sim_limits f s a st m) w list seed r g.words ≡ None
@@ -231,12 +232,12 @@ sim_missing g h =
     go k (Some f) (Some s) None st m w list seed r h = limited k (sim_limits (Some f) (Some s) None st m) w list seed r (limits_none (Some f) (Some s) None st m refl)
     go k (Some f) (Some s) (Some a) None m w list seed r h = limited k (sim_limits (Some f) (Some s) (Some a) None m) w list seed r (limits_none (Some f) (Some s) (Some a) None m refl)
     go k (Some f) (Some s) (Some a) (Some st) None w list seed r h =
-        limited k (sim_limits (Some f) (Some s) (Some a) (Some st) None) w list seed r (limits_moves (number_in words.fuel_option f) (number_in words.size_option s) (number_in words.aborts_option a) (number_in words.strands_option st))
+        limited k (sim_limits (Some f) (Some s) (Some a) (Some st) None) w list seed r (limits_moves (number_in fuel_option f) (number_in size_option s) (number_in aborts_option a) (number_in strands_option st))
     go false (Some f) (Some s) (Some a) (Some st) (Some m) w list seed r h = refl
     go true (Some f) (Some s) (Some a) (Some st) (Some m) None list seed r h = sim_workers (sim_limits (Some f) (Some s) (Some a) (Some st) (Some m)) (option_and_then words.report_in r) (sim_turns list seed) (integers_of g.words)
-    go true (Some f) (Some s) (Some a) (Some st) (Some m) (Some w) None seed r h = sim_schedule (sim_limits (Some f) (Some s) (Some a) (Some st) (Some m)) (option_and_then words.report_in r) (number_in words.workers_option w) (integers_of g.words)
-    go true (Some f) (Some s) (Some a) (Some st) (Some m) (Some w) (Some list) None r h = sim_schedule (sim_limits (Some f) (Some s) (Some a) (Some st) (Some m)) (option_and_then words.report_in r) (number_in words.workers_option w) (integers_of g.words)
-    go true (Some f) (Some s) (Some a) (Some st) (Some m) (Some w) (Some list) (Some seed) None h = sim_report (sim_limits (Some f) (Some s) (Some a) (Some st) (Some m)) (number_in words.workers_option w) (sim_turns (Some list) (Some seed)) (integers_of g.words)
+    go true (Some f) (Some s) (Some a) (Some st) (Some m) (Some w) None seed r h = sim_schedule (sim_limits (Some f) (Some s) (Some a) (Some st) (Some m)) (option_and_then words.report_in r) (number_in workers_option w) (integers_of g.words)
+    go true (Some f) (Some s) (Some a) (Some st) (Some m) (Some w) (Some list) None r h = sim_schedule (sim_limits (Some f) (Some s) (Some a) (Some st) (Some m)) (option_and_then words.report_in r) (number_in workers_option w) (integers_of g.words)
+    go true (Some f) (Some s) (Some a) (Some st) (Some m) (Some w) (Some list) (Some seed) None h = sim_report (sim_limits (Some f) (Some s) (Some a) (Some st) (Some m)) (number_in workers_option w) (sim_turns (Some list) (Some seed)) (integers_of g.words)
     go true (Some f) (Some s) (Some a) (Some st) (Some m) (Some w) (Some list) (Some seed) (Some r) h = absurd (true≢false h)
 
 -- ## The whole command line

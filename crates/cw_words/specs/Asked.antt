@@ -7,11 +7,12 @@ use Rattle.clap.specs.Words.{Row, Text, first_of}
 use Rattle.clap.specs.Walk.{rows_of}
 use Rattle.clap.specs.declared.parser.matches.Found.{Found}
 use Rattle.cw_code.specs.declared.Limits.{Limits}
+use Rattle.cw_code.specs.Ranges.{NumberOption, aborts_option, fuel_option, moves_option, size_option, strands_option, workers_option}
 use Rattle.cw_io.specs.declared.schedule.Schedule.{Schedule}
 use Rattle.cw_words.specs.declared.command.Command.{Command}
 use Rattle.cw_words.specs.declared.command.Command.TheVariants.{Run, Sim, Load}
-use Rattle.cw_words.specs.Options.{NumberOption, integers_of, number_in, number_within, sole_word}
-use Rattle.cw_words.specs.Words.{aborts_option, fuel_option, most_transfers, moves_option, report_in, schedule_in, size_option, strands_option, workers_option}
+use Rattle.cw_words.specs.Options.{integers_of, number_in, number_within, sole_word}
+use Rattle.cw_words.specs.Words.{most_transfers, report_in, schedule_in}
 
 -- ## Matches
 

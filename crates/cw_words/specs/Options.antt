@@ -4,6 +4,7 @@ use Rattle.std.specs.Prelude.{ℕ, ℤ, pos, neg_ℤ, ◌-◌, ◌^◌, ◌==◌
 use Rattle.std.specs.List.{after_first, before_first, list_all, list_any, starts_with}
 use Rattle.std.specs.Str.{all_ascii_digits, bytes_eq, byte}
 use Rattle.std.specs.Str.Parse.{digits_value}
+use Rattle.cw_code.specs.Ranges.{NumberOption}
 
 -- ## What words give
 
@@ -122,13 +123,7 @@ one_of (v ∷ w ∷ vs) = None
 abbrev pub option_value : (name : List ℕ) → List GivenOption → Option (Option (List ℕ))
 option_value name os = one_of (values_of name os)
 
--- an option whose value is a number: its name, its least value, its greatest value, and its default
-pub record NumberOption : Type 0 where
-  pub name : List ℕ
-  pub least : ℕ
-  pub most : ℕ
-  pub default : ℕ
-
+-- the number that an option has: its default, if no value is given
 abbrev pub number_in : NumberOption → (value : Option (List ℕ)) → Option ℕ
 number_in o None = Some o.default
 number_in o (Some v) = number_within o.least o.most v

@@ -4,33 +4,14 @@ use Rattle.std.specs.Prelude.{◌-◌, ◌^◌, Bool, true, false, List, [], ◌
 use Rattle.std.specs.declared.alloc.Global.{Global}
 use Rattle.std.specs.Str.{bytes_eq}
 use Rattle.cw_code.specs.declared.Limits.{Limits}
+use Rattle.cw_code.specs.Ranges.{aborts_option, default_limits, fuel_option, moves_option, size_option, strands_option, workers_option}
 use Rattle.cw_io.specs.declared.schedule.Schedule.{Schedule}
 use Rattle.cw_io.specs.declared.schedule.Schedule.TheVariants.{List as Listed, Seeded}
 use Rattle.cw_words.specs.declared.command.Command.{Command}
 use Rattle.cw_words.specs.declared.command.Command.TheVariants.{Run, Sim, Load}
-use Rattle.cw_words.specs.Options.{Given, GivenOption, NumberOption, are_known, given, integers_of, list_below, number_given, number_within, sole_word, option_value}
+use Rattle.cw_words.specs.Options.{Given, GivenOption, are_known, given, integers_of, list_below, number_given, number_within, sole_word, option_value}
 
 -- ## Options
-
-abbrev pub fuel_option : NumberOption
-fuel_option = record { name = codes "fuel"; least = 1; most = 10 ^ 9; default = 10 ^ 6 }
-
-abbrev pub size_option : NumberOption
-size_option = record { name = codes "size"; least = 1; most = 10 ^ 7; default = 10 ^ 6 }
-
--- the most attempts that a block or an access may have
-abbrev pub aborts_option : NumberOption
-aborts_option = record { name = codes "aborts"; least = 1; most = 10 ^ 9; default = 100000 }
-
--- the most strands that may have columns
-abbrev pub strands_option : NumberOption
-strands_option = record { name = codes "strands"; least = 1; most = 10 ^ 6; default = 262144 }
-
-abbrev pub moves_option : NumberOption
-moves_option = record { name = codes "moves"; least = 1; most = 10 ^ 9; default = 10 ^ 7 }
-
-abbrev pub workers_option : NumberOption
-workers_option = record { name = codes "workers"; least = 1; most = 64; default = 4 }
 
 -- the names of the options of each command
 abbrev pub run_options : List (List ℕ)
@@ -41,10 +22,6 @@ sim_options = codes "fuel" ∷ codes "size" ∷ codes "aborts" ∷ codes "strand
 
 abbrev pub load_options : List (List ℕ)
 load_options = codes "workers" ∷ []
-
--- the limits of a command that gives none
-abbrev pub default_limits : Limits
-default_limits = record { fuel = fuel_option.default; size = size_option.default; aborts = aborts_option.default; strands = strands_option.default; moves = moves_option.default }
 
 -- The limits that options give. A limit that is not given, or that is no option of the command, has its default.
 abbrev pub limits_given : List GivenOption → Option Limits

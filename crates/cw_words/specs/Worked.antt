@@ -2,12 +2,13 @@
 use Rattle.std.specs.Prelude.{◌≡◌, ℕ, ℤ, pos, neg_ℤ, true, false, List, [], ◌∷◌, ◌++◌, Option, Some, None, codes, replicate}
 use Rattle.std.specs.List.{flat_map}
 use Rattle.cw_code.specs.declared.Limits.{Limits}
+use Rattle.cw_code.specs.Ranges.{default_limits}
 use Rattle.cw_io.specs.declared.schedule.Schedule.{Schedule}
 use Rattle.cw_io.specs.declared.schedule.Schedule.TheVariants.{List as Listed, Seeded}
 use Rattle.cw_words.specs.declared.command.Command.{Command}
 use Rattle.cw_words.specs.declared.command.Command.TheVariants.{Run, Sim, Load}
 use Rattle.cw_words.specs.Options.{list_below}
-use Rattle.cw_words.specs.Words.{command_of, default_limits}
+use Rattle.cw_words.specs.Words.{command_of}
 
 -- a run with this fuel and size; its other limits are the defaults
 abbrev pub run_of : (fuel size : ℕ) → Option Command

@@ -1,15 +1,16 @@
 ghost use Rattle.std.specs.Prelude.{◌≡◌, ◌<◌, ◌≤◌, ℕ, IfOk, IfSome, IsOkAnd, None, map, option_map};
 ghost use Rattle.clap.specs.Words.{found_of};
+ghost use Rattle.cw_code.specs.Ranges.{option_of, workers_option};
 ghost use Rattle.cw_io.specs.declared.schedule.Schedule.TheVariants.{List as Listed};
 ghost use Rattle.cw_words.specs.Asked.{limits_at, report_at, schedule_at, transfers_at, value_in, words_in};
 ghost use Rattle.cw_words.specs.Options.{integers_of, number_in, sole_word};
 ghost use Rattle.cw_words.specs.Reading.{Reads};
-ghost use Rattle.cw_words.specs.Words.{default_limits, schedule_in as schedule_by, workers_option};
+ghost use Rattle.cw_words.specs.Words.{schedule_in as schedule_by};
 
 use crate::options::{Kept, integer_of, list_below, number_within, with_one};
 use clap::ArgMatches;
 use cw_base::{OutOfMemory, Seq};
-use cw_code::Limits;
+use cw_code::{ABORTS, FUEL, Limits, MOVES, NumberRange, SIZE, STRANDS, WORKERS};
 use cw_io::Schedule;
 use std::alloc::Global;
 
@@ -26,29 +27,16 @@ fn value_of<'a>(found: &ArgMatches<'a>, name: &str) -> Option<&'a str>
     found.get_str(name)
 }
 
-// Returns the number within these bounds given to the option `name`, or `default` if it is not given.
-fn number_of(found: &ArgMatches<'_>, name: &str, least: u64, most: u64, default: u64) -> Option<u64>
-    requires least { least ≤ default }
-    requires most { default ≤ most }
-    ensures exact { result ≡ number_in (record { name = name.now; least = least; most = most; default = default }) (value_in (found_of found.now) name.now) }
-    ensures within { IfSome result (λ n. (least ≤ n) × (n ≤ most)) }
+// Returns the number in `range` given to the option `name`, or the default if the option is not given.
+fn number_of(found: &ArgMatches<'_>, name: &str, range: NumberRange) -> Option<u64>
+    requires least { range.least ≤ range.default }
+    requires most { range.default ≤ range.most }
+    ensures exact { result ≡ number_in (option_of name.now range) (value_in (found_of found.now) name.now) }
+    ensures within { IfSome result (λ n. (range.least ≤ n) × (n ≤ range.most)) }
 {
     match value_of(found, name) {
-        Some(value) => number_within(value, least, most),
-        None => Some(default),
-    }
-}
-
-/// Returns the limits of a command that gives none.
-pub fn default_limits() -> Limits
-    ensures { result ≡ default_limits }
-{
-    Limits {
-        fuel: 1_000_000,
-        size: 1_000_000,
-        aborts: 100_000,
-        strands: 262_144,
-        moves: 10_000_000,
+        Some(value) => number_within(value, range.least, range.most),
+        None => Some(range.default),
     }
 }
 
@@ -56,11 +44,11 @@ pub fn default_limits() -> Limits
 pub fn limits_of(found: &ArgMatches<'_>) -> Option<Limits>
     ensures { result ≡ limits_at (value_in (found_of found.now)) }
 {
-    let fuel = number_of(found, "fuel", 1, 1_000_000_000, 1_000_000)?;
-    let size = number_of(found, "size", 1, 10_000_000, 1_000_000)?;
-    let aborts = number_of(found, "aborts", 1, 1_000_000_000, 100_000)?;
-    let strands = number_of(found, "strands", 1, 1_000_000, 262_144)?;
-    let moves = number_of(found, "moves", 1, 1_000_000_000, 10_000_000)?;
+    let fuel = number_of(found, "fuel", FUEL)?;
+    let size = number_of(found, "size", SIZE)?;
+    let aborts = number_of(found, "aborts", ABORTS)?;
+    let strands = number_of(found, "strands", STRANDS)?;
+    let moves = number_of(found, "moves", MOVES)?;
     Some(Limits {
         fuel,
         size: size as u32,
@@ -88,7 +76,7 @@ pub fn workers_of(found: &ArgMatches<'_>) -> Option<u32>
     ensures some { IfSome result (λ n. 0 < n) }
     ensures exact { result ≡ number_in workers_option (value_in (found_of found.now) workers_option.name) }
 {
-    Some(number_of(found, "workers", 1, 64, 4)? as u32)
+    Some(number_of(found, "workers", WORKERS)? as u32)
 }
 
 fn listed(kept: Kept<u32>) -> Result<Schedule, OutOfMemory>

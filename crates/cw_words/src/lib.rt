@@ -11,7 +11,6 @@ mod options;
 
 ghost use Rattle.cw_words.specs.Worked.{Commands, Loads, Simulations};
 
-pub use asked::default_limits;
 pub use command::{Command, command_of};
 
 /// Examples of words, and the commands that they are.
