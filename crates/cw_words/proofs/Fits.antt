@@ -1,5 +1,5 @@
 -- Options that fit are known, and none of them is given twice.
-use Rattle.std.proofs.Common.{◌≡◌, ◌∙◌, ◌&&◌, ◌||◌, ◌+◌, ◌<◌, ℕ, Bool, true, false, true≢false, zero, suc, List, [], ◌∷◌, ◌++◌, map, length, take, Option, Some, None, codes, not, is_some, refl, sym, ap, arith, subst, get_or}
+use Rattle.std.proofs.Common.{◌≡◌, ◌∙◌, ◌&&◌, ◌||◌, ◌+◌, ◌<◌, ℕ, Bool, true, false, true≢false, zero, suc, List, [], ◌∷◌, ◌++◌, map, length, take, Some, not, is_some, refl, sym, ap, arith, subst, get_or}
 use Rattle.std.specs.Prelude.{if◌then◌else◌, slice_get}
 use Rattle.std.proofs.Common.{inl, inr, ◌⊎◌}
 use Rattle.std.specs.Borrow.{Bor}
@@ -7,7 +7,7 @@ use Rattle.std.specs.Str.{bytes_eq}
 use Rattle.std.proofs.lemmas.List.{map-append}
 use Rattle.std.proofs.lemmas.Slice.Eq.{bytes_eq-Decides}
 use Rattle.clap.proofs.WalkLemmas.{both}
-use Rattle.clap.specs.Words.{App, Row, Rule, Text, with_rule}
+use Rattle.clap.specs.Words.{Row, Rule, Text, with_rule}
 use Rattle.clap.specs.Simple.{new_shape}
 use Rattle.clap.specs.Walk.{has_row}
 use Rattle.cw_words.specs.Options.{GivenOption, are_known, one_of, values_of}

@@ -1,6 +1,6 @@
 -- The parse of the words behind a command, and the level above it.
-use Rattle.std.proofs.Common.{◌≡◌, ◌∙◌, ◌&&◌, ◌||◌, ℕ, Bool, true, false, true≢false, List, [], ◌∷◌, ◌++◌, map, length, Option, Some, None, codes, not, is_some, option_map, refl, sym, ap, arith, subst, append_assoc, append-nil}
-use Rattle.std.specs.Prelude.{if◌then◌else◌, find, fold}
+use Rattle.std.proofs.Common.{◌≡◌, ◌∙◌, ◌&&◌, ◌||◌, ℕ, Bool, true, false, true≢false, List, [], ◌∷◌, ◌++◌, map, Some, None, codes, not, is_some, refl, sym, ap, subst, append_assoc, append-nil}
+use Rattle.std.specs.Prelude.{if◌then◌else◌, fold}
 use Rattle.std.specs.List.{list_any}
 use Rattle.std.specs.Str.{bytes_eq}
 use Rattle.std.specs.Str.{chars}
@@ -8,21 +8,20 @@ use Rattle.std.specs.Prelude.{slice_get}
 use Rattle.clap.specs.Lexer.{long_of, short_of}
 use Rattle.clap.specs.Faults.{flags_fault, turn_fault}
 use Rattle.clap.specs.Kinds.{Kinds, check_kinds, or_else}
-use Rattle.clap.specs.Words.{App, Row, Rule, Shape, Text, fault_of, is_simple_and_free, subcommand_of}
+use Rattle.clap.specs.Words.{App, Row, Shape, Text, fault_of, is_simple_and_free, subcommand_of}
 use Rattle.clap.specs.Simple.{built, filled_from, names_of, new_shape}
 use Rattle.clap.specs.Takes.{is_given}
 use Rattle.clap.specs.Walk.{Names, Walk, finished, has_row, idle, nothing_held, rows_after, settled, walk, walk_from, walked, with_default}
 use Rattle.clap.specs.Faults.{check_fault, default_fault, defaults_fault, given_default_fault, level_fault, settle_fault, walk_fault}
-use Rattle.clap.proofs.OnLiterals.{clap_on_literals}
-use Rattle.cw_words.specs.Options.{Given, given}
+use Rattle.cw_words.specs.Options.{given}
 use Rattle.cw_words.specs.Words.{load_options, run_options, sim_options}
-use Rattle.cw_words.specs.Shapes.{built_option, built_word, end_from, fault_from, fine, has_no_odd, is_known, judged, leaf, leaf_app, leaf_rules, option_rule, rows_from, walk_at}
+use Rattle.cw_words.specs.Shapes.{built_option, built_word, end_from, fault_from, fine, has_no_odd, is_known, judged, leaf, leaf_rules, rows_from, walk_at}
 use Rattle.std.proofs.Common.{inl, inr, ◌⊎◌}
 use Rattle.std.specs.Prelude.{option_and_then}
 use Rattle.clap.specs.Lexer.{long_of_rest}
 use Rattle.clap.specs.Walk.{is_empty}
 use Rattle.cw_words.specs.Shapes.{cli, is_odd}
-use Rattle.cw_words.proofs.Walks.{IsPlainWord, and_assoc, empty_is_plain, fine-or_else, first_char, no_option, odd_one, other_is_plain, walks, word_cases}
+use Rattle.cw_words.proofs.Walks.{IsPlainWord, empty_is_plain, fine-or_else, first_char, no_option, odd_one, other_is_plain, walks, word_cases}
 use Rattle.cw_words.proofs.Rows.{Sees, ends}
 
 or_true : (a : Bool) → (a || true) ≡ true

@@ -1,5 +1,5 @@
 -- Words of which one is `-` are no command.
-use Rattle.std.proofs.Common.{◌≡◌, ◌∙◌, ◌||◌, ◌⊎◌, ℕ, ℤ, Bool, true, false, true≢false, inl, inr, List, [], ◌∷◌, Option, Some, None, codes, option_map, refl, sym, ap, subst}
+use Rattle.std.proofs.Common.{◌≡◌, ◌∙◌, ℕ, Bool, true, false, true≢false, inl, inr, List, [], ◌∷◌, Option, Some, None, codes, refl, sym, ap}
 use Rattle.std.specs.Prelude.{if◌then◌else◌, option_and_then}
 use Rattle.std.specs.List.{list_any}
 use Rattle.std.specs.Str.{bytes_eq}
@@ -9,9 +9,9 @@ use Rattle.cw_code.specs.declared.Limits.{Limits}
 use Rattle.cw_io.specs.declared.schedule.Schedule.{Schedule}
 use Rattle.cw_words.specs.declared.command.Command.{Command}
 use Rattle.cw_words.specs.Asked.{is_dash, load_from, run_from, sim_from}
-use Rattle.cw_words.specs.Options.{Given, are_known, given, integers_of, number_given, number_within, sole_word}
+use Rattle.cw_words.specs.Options.{Given, are_known, given, number_given, number_within, sole_word}
 use Rattle.cw_code.specs.Ranges.{workers_option}
-use Rattle.cw_words.specs.Words.{command_of, limits_given, load_given, load_options, most_transfers, report_given, run_given, run_options, schedule_given, sim_given, sim_options, transfers_given}
+use Rattle.cw_words.specs.Words.{command_of, limits_given, load_given, load_options, most_transfers, report_given, run_given, run_options, schedule_given, sim_given, sim_options}
 use Rattle.cw_words.proofs.Whole.{HasDash, dash_given, dash_integers, or_cases}
 
 no_run : (g : Given) → list_any is_dash g.words ≡ true → run_given g ≡ None

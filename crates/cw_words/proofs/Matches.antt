@@ -1,5 +1,5 @@
 -- What clap's matches give: the words that belong to no option, and the command that a parse enters.
-use Rattle.std.proofs.Common.{◌≡◌, ◌∙◌, ◌&&◌, ◌∷◌, [], ℕ, Bool, true, false, true≢false, not, List, Option, Some, None, codes, option_map, refl, sym, ap}
+use Rattle.std.proofs.Common.{◌≡◌, ◌∙◌, ◌∷◌, [], true, false, not, List, Option, Some, None, codes, option_map, refl, sym, ap}
 use Rattle.std.specs.Prelude.{find, unwrap_or}
 use Rattle.std.specs.Option.{option_map_or}
 use Rattle.std.specs.Str.{bytes_eq}

@@ -1,5 +1,5 @@
 -- A text is odd only if it is `-`.
-use Rattle.std.proofs.Common.{◌≡◌, ◌∙◌, ◌&&◌, ◌<◌, ◌++◌, ℕ, Bool, true, false, true≢false, zero, suc, List, [], ◌∷◌, length, not, refl, sym, ap, arith, append-nil}
+use Rattle.std.proofs.Common.{◌≡◌, ◌∙◌, ◌&&◌, ◌++◌, ℕ, Bool, true, false, true≢false, zero, suc, [], ◌∷◌, length, not, refl, sym, ap, arith, append-nil}
 use Rattle.std.specs.Prelude.{◌==◌}
 use Rattle.std.specs.Str.{IsAscii, IsUtf8, bytes_eq, chars}
 use Rattle.std.proofs.lemmas.Str.{IsUtf8-from_ascii, chars-append, encodes-chars}

@@ -1,6 +1,6 @@
 -- What rows clap's walk over the words behind a command leaves: the values of its options, and the words that belong to none.
-use Rattle.std.proofs.Common.{◌≡◌, ◌∙◌, ◌&&◌, ◌||◌, ℕ, Bool, true, false, true≢false, List, [], ◌∷◌, ◌++◌, map, length, Option, Some, None, codes, not, is_some, option_map, refl, sym, ap, arith, subst, append_assoc, append-nil}
-use Rattle.std.specs.Prelude.{if◌then◌else◌, find, fold, ◌==◌}
+use Rattle.std.proofs.Common.{◌≡◌, ◌∙◌, ◌&&◌, ◌||◌, ℕ, Bool, true, false, true≢false, List, [], ◌∷◌, ◌++◌, Option, Some, None, codes, not, option_map, refl, sym, ap, subst, append_assoc, append-nil}
+use Rattle.std.specs.Prelude.{if◌then◌else◌, find, ◌==◌}
 use Rattle.std.specs.Option.{option_map_or}
 use Rattle.std.specs.List.{list_any, after_first, before_first}
 use Rattle.std.specs.Str.{bytes_eq}
@@ -11,10 +11,10 @@ use Rattle.clap.specs.declared.parser.matches.ValueSource.{ValueSource}
 use Rattle.clap.specs.declared.parser.matches.ValueSource.TheVariants.{CommandLine}
 use Rattle.clap.proofs.WalkLemmas.{both}
 use Rattle.clap.specs.Walk.{Row, Rule, Text, Waiting, Walk, after_step, arg_by_long, has_row, idle, more_values, option, positional, reading_by, settled_rows, walked, with_values, without}
-use Rattle.cw_words.specs.Options.{Given, GivenOption, given, given_on, has_hyphen, is_equals, only_words, values_of, with_option, with_word}
+use Rattle.cw_words.specs.Options.{Given, given, given_on, has_hyphen, is_equals, only_words, values_of, with_option, with_word}
 use Rattle.cw_words.specs.Asked.{vals}
 use Rattle.cw_words.specs.Shapes.{add_option, add_word, built_option, built_word, fits, held_at, is_known, leaf_rules, rows_from, walk_at}
-use Rattle.cw_words.proofs.Walks.{IsPlainWord, before_all, by_id, empty_is_plain, ends_walked, fits_same, given_bare, given_equals, given_plain, given_short, has_word, long_after, long_known, long_unknown, other_is_plain, plain_walked, resting, settled_option, trailing_walked, value_plain, value_there, value_walked, walked_long, without_none, word_cases, words_differ, not_true}
+use Rattle.cw_words.proofs.Walks.{IsPlainWord, before_all, by_id, empty_is_plain, ends_walked, fits_same, given_bare, given_equals, given_plain, given_short, has_word, long_after, long_known, other_is_plain, plain_walked, resting, settled_option, trailing_walked, value_plain, value_there, value_walked, walked_long, without_none, word_cases, words_differ, not_true}
 
 pub vals_with : (id j : Text) (how : Reading) (s : ValueSource) (vs : List Text) (rows : List Row) → vals j (with_values id how s vs rows) ≡ (if bytes_eq id j then vals j rows ++ vs else vals j rows)
 vals_with id j how s vs [] = go (bytes_eq id j)

@@ -1,7 +1,7 @@
 -- Each turn of clap's walk over the words behind a command, by the kind of the word, and what the whole walk judges of them.
-use Rattle.std.proofs.Common.{◌≡◌, ◌∙◌, ◌&&◌, ◌||◌, ℕ, Bool, true, false, true≢false, List, [], ◌∷◌, ◌++◌, map, length, Option, Some, None, codes, not, is_some, option_map, refl, sym, ap, arith, subst, drop, take, suc, ◌+◌}
-use Rattle.std.specs.Prelude.{if◌then◌else◌, find, fold, slice_get, ◌==◌}
-use Rattle.std.specs.List.{list_all, list_any, after_first, before_first, position_or_len}
+use Rattle.std.proofs.Common.{◌≡◌, ◌∙◌, ◌&&◌, ◌||◌, ℕ, Bool, true, false, true≢false, List, [], ◌∷◌, ◌++◌, map, Option, Some, None, codes, not, is_some, option_map, refl, sym, ap, arith, subst, take, suc, ◌+◌}
+use Rattle.std.specs.Prelude.{if◌then◌else◌, find, slice_get, ◌==◌}
+use Rattle.std.specs.List.{list_any, after_first, before_first, position_or_len}
 use Rattle.std.specs.Str.{bytes_eq, chars}
 use Rattle.std.proofs.lemmas.Slice.Eq.{bytes_eq-Decides}
 use Rattle.std.proofs.lemmas.Bool.Decides.{Decides-eqb}
@@ -15,10 +15,10 @@ use Rattle.clap.proofs.WalkLemmas.{both}
 use Rattle.std.proofs.lemmas.Str.{chars-nil}
 use Rattle.clap.specs.declared.error.kind.ErrorKind.TheVariants as kind
 use Rattle.clap.specs.Kinds.{Kinds, or_else}
-use Rattle.clap.specs.Walk.{Held, Row, Rule, Step, Text, Waiting, Walk, after_flag, after_step, long_met, option_word, arg_by_id, arg_by_long, arg_by_short, has_long, has_row, has_short, idle, is_empty, is_pending, more_values, reading_by, used_by_id, with_values, without, option, positional, pushed, settled, settled_rows, used, walked, word_met}
+use Rattle.clap.specs.Walk.{Held, Row, Rule, Step, Text, Waiting, Walk, after_flag, after_step, long_met, option_word, arg_by_id, arg_by_long, arg_by_short, has_long, has_row, has_short, idle, is_empty, is_pending, more_values, reading_by, used_by_id, with_values, without, option, positional, pushed, settled, settled_rows, walked}
 use Rattle.clap.specs.Faults.{flags_fault, long_fault, step_fault, settle_fault, turn_fault, use_fault, walk_fault}
 use Rattle.cw_words.specs.Options.{Given, GivenOption, given, given_on, has_hyphen, is_equals, is_option, only_words, with_option, with_word}
-use Rattle.cw_words.specs.Shapes.{add_option, add_word, built_option, built_word, end_from, fault_from, fine, fits, has_no_odd, held_at, is_known, is_odd, judged, leaf, leaf_rules, rows_from, walk_at}
+use Rattle.cw_words.specs.Shapes.{add_option, add_word, built_option, built_word, end_from, fault_from, fine, fits, has_no_odd, held_at, is_known, is_odd, judged, leaf, leaf_rules, walk_at}
 
 pub fine-or_else : (a b : Kinds) → fine (or_else a b) ≡ (fine a && fine b)
 fine-or_else [] b = refl

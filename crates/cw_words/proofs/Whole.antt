@@ -1,5 +1,5 @@
 -- The command that words are, by what clap's parse makes of them.
-use Rattle.std.proofs.Common.{◌≡◌, ◌∙◌, ◌&&◌, ◌||◌, ℕ, ℤ, Bool, true, false, true≢false, List, [], ◌∷◌, ◌++◌, map, Option, Some, None, codes, not, is_some, option_map, refl, sym, ap, subst}
+use Rattle.std.proofs.Common.{◌≡◌, ◌∙◌, ◌&&◌, ◌||◌, ℕ, ℤ, Bool, true, false, true≢false, List, [], ◌∷◌, Option, Some, None, codes, not, is_some, option_map, refl, sym, ap, subst}
 use Rattle.std.specs.Prelude.{if◌then◌else◌, find, option_and_then, slice_get}
 use Rattle.std.specs.Str.{bytes_eq}
 use Rattle.std.specs.List.{list_all}
@@ -7,7 +7,6 @@ use Rattle.std.specs.Option.{option_map_or}
 use Rattle.std.proofs.lemmas.Slice.Eq.{bytes_eq-Decides}
 use Rattle.clap.proofs.WalkLemmas.{both}
 use Rattle.clap.specs.Words.{Row, Text, first_of}
-use Rattle.clap.specs.Kinds.{Kinds}
 use Rattle.clap.specs.Words.{fault_of, subcommand_of}
 use Rattle.clap.specs.Walk.{rows_after}
 use Rattle.cw_io.specs.declared.schedule.Schedule.{Schedule}
@@ -18,10 +17,10 @@ use Rattle.std.proofs.Common.{drop}
 use Rattle.std.specs.List.{after_first, before_first}
 use Rattle.cw_words.specs.Options.{given_on, has_hyphen, integer_of, is_equals, is_option, only_words, with_option, with_word}
 use Rattle.cw_words.proofs.Fits.{or_right}
-use Rattle.cw_words.specs.Options.{Given, GivenOption, are_known, given, integers_of, number_in, one_of, option_value, values_of}
+use Rattle.cw_words.specs.Options.{Given, GivenOption, are_known, given, integers_of, number_in, option_value}
 use Rattle.cw_words.specs.Words as words
 use Rattle.cw_words.specs.Words.{command_of, load_given, load_options, run_given, run_options, sim_given, sim_options}
-use Rattle.cw_words.specs.Asked.{Values, is_dash, limits_from, load_asked, load_from, run_at, run_from, schedule_at, sim_at, sim_from, transfers_at, vals}
+use Rattle.cw_words.specs.Asked.{Values, is_dash, limits_from, load_asked, load_from, run_at, run_from, sim_at, sim_from, transfers_at, vals}
 use Rattle.cw_words.specs.Shapes.{fine, fits, has_no_odd, is_known, judged, leaf_rules}
 use Rattle.cw_words.proofs.Fits.{fits_known, fits_one, one_fits}
 use Rattle.std.proofs.Common.{inl, inr, ◌⊎◌}

@@ -1,7 +1,6 @@
 -- What clap's matches ask for, by the value of each option and the words that belong to none.
-use Rattle.std.specs.Prelude.{◌≡◌, ℕ, ℤ, Bool, List, [], ◌∷◌, Option, Some, None, codes, if◌then◌else◌, find, option_and_then, option_map}
+use Rattle.std.specs.Prelude.{ℕ, ℤ, Bool, List, [], Option, codes, find, option_and_then, option_map}
 use Rattle.std.specs.Option.{option_map_or}
-use Rattle.std.specs.List.{list_any}
 use Rattle.std.specs.Str.{bytes_eq}
 use Rattle.clap.specs.Words.{Row, Text, first_of}
 use Rattle.clap.specs.Walk.{rows_of}

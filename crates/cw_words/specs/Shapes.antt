@@ -1,9 +1,9 @@
 -- The command line as clap has it: as the code writes it, and as clap builds it. And what clap's walk over the words of a command
 -- makes of them.
-use Rattle.std.specs.Prelude.{◌≡◌, ℕ, Bool, true, false, List, [], ◌∷◌, ◌++◌, ◌&&◌, not, map, Option, Some, None, codes, drop, fold}
+use Rattle.std.specs.Prelude.{Bool, true, false, List, [], ◌∷◌, ◌&&◌, not, map, Option, Some, None, codes, drop, fold}
 use Rattle.std.specs.List.{list_any, list_all}
 use Rattle.std.specs.Str.{bytes_eq, chars}
-use Rattle.clap.specs.Words.{App, Kinds, Row, Rule, Shape, Text, new_app, new_rule}
+use Rattle.clap.specs.Words.{App, Kinds, Row, Rule, Shape, Text, new_rule}
 use Rattle.clap.specs.Kinds.{or_else}
 use Rattle.clap.specs.Simple.{new_shape}
 use Rattle.clap.specs.Walk.{Held, Waiting, Walk, has_row, is_empty, settled_rows, used, walked}
@@ -11,7 +11,7 @@ use Rattle.clap.specs.Faults.{settle_fault, walk_fault}
 use Rattle.clap.specs.declared.builder.action.ArgAction.TheVariants.{Append, Set}
 use Rattle.clap.specs.declared.builder.value_parser.ValueParser.TheVariants as vp
 use Rattle.cw_words.specs.Words.{load_options, run_options, sim_options}
-use Rattle.cw_words.specs.Options.{Given, GivenOption, given, has_hyphen, is_option}
+use Rattle.cw_words.specs.Options.{Given, GivenOption, has_hyphen, is_option}
 
 abbrev pub option_rule : Text → Rule
 option_rule name = record (new_rule name) { long = Some name }
