@@ -46,7 +46,7 @@ module _ (t : List Node) (r : IsRooted t) where
       ]
 
   module _ (a b : ℕ) (ha : a < length t) (hb : b < length t) (ab : is_ancestor t a b ≡ false) (ba : is_ancestor t b a ≡ false) where
-    meet : IsMeet t r a b (lca t a b)
+    pub meet : IsMeet t r a b (lca t a b)
     meet = lca_is_meet t r a b ha hb
 
     left_ne : a ≢ lca t a b
@@ -55,13 +55,13 @@ module _ (t : List Node) (r : IsRooted t) where
     right_ne : b ≢ lca t a b
     right_ne e = let P : ℕ → Type 0 = λ m. is_ancestor t m a ≡ true in absurd (cc (ba, subst P (sym e) meet.left))
 
-    left : Branch t r (lca t a b) a
+    pub left : Branch t r (lca t a b) a
     left = branch t r (lca t a b) a ha left_ne meet.left
 
-    right : Branch t r (lca t a b) b
+    pub right : Branch t r (lca t a b) b
     right = branch t r (lca t a b) b hb right_ne meet.right
 
-    branches_differ : left.child ≢ right.child
+    pub branches_differ : left.child ≢ right.child
     branches_differ e =
         let P : ℕ → Type 0 = λ c. is_ancestor t c b ≡ true in
         let over : is_ancestor t left.child (lca t a b) ≡ true = meet.innermost left.child left.over (subst P (sym e) right.over) in
@@ -70,17 +70,22 @@ module _ (t : List Node) (r : IsRooted t) where
         let low : parent_of t left.child < left.child = r left.child left.some (omega arith) in
         omega (arith, left.parent)
 
+    -- at a fork neither is before the other
+    pub fork_apart : is_fork t (lca t a b) ≡ true → is_before t a b ≡ false
+    fork_apart f =
+        false_from_ne_true (is_before t a b) (λ e. let s = of_before t a b e in absurd (cc (f, s.ordered.no_fork, ap (is_fork t) (series_meet a b (lca t a b) ha hb meet s))))
+
     at_fork : is_fork t (lca t a b) ≡ true → one_if (parallel t a b) + one_if (is_before t a b) + one_if (is_before t b a) ≡ 1
     at_fork f =
         one_true (parallel t a b) (is_before t a b) (is_before t b a)
         (and_from (not (is_ancestor t a b) && not (is_ancestor t b a)) (is_fork t (lca t a b)) (and_from (not (is_ancestor t a b)) (not (is_ancestor t b a)) (not_from_false (is_ancestor t a b) ab) (not_from_false (is_ancestor t b a) ba)) f)
-        (false_from_ne_true (is_before t a b) (λ e. let s = of_before t a b e in absurd (cc (f, s.ordered.no_fork, ap (is_fork t) (series_meet a b (lca t a b) ha hb meet s)))))
+        (fork_apart f)
         (false_from_ne_true (is_before t b a) (λ e. let s = of_before t b a e in absurd (cc (f, s.ordered.no_fork, ap (is_fork t) (series_meet b a (lca t a b) hb ha (swapped a b (lca t a b) meet) s)))))
 
     no_parallel : is_fork t (lca t a b) ≡ false → parallel t a b ≡ false
     no_parallel f = and_right (not (is_ancestor t a b) && not (is_ancestor t b a)) (is_fork t (lca t a b)) f
 
-    first_comes : is_fork t (lca t a b) ≡ false → left.child < right.child → is_before t a b ≡ true
+    pub first_comes : is_fork t (lca t a b) ≡ false → left.child < right.child → is_before t a b ≡ true
     first_comes f less = before_of t a b (record {
       first = left.child;
       second = right.child;
@@ -99,7 +104,7 @@ module _ (t : List Node) (r : IsRooted t) where
     })
 
     -- the children in which a and b stand tell which is before the other
-    by_branches : is_before t a b ≡ true → left.child < right.child
+    pub by_branches : is_before t a b ≡ true → left.child < right.child
     by_branches e =
         let s = of_before t a b e in
         let o = s.ordered in
@@ -110,7 +115,7 @@ module _ (t : List Node) (r : IsRooted t) where
         let second : s.second ≡ right.child = children_apart t r s.second right.child b hb (omega arith) right.some (sym o.same ∙ up ∙ sym right.parent) s.over_second right.over in
         omega (arith, first, second)
 
-    by_branches_back : is_before t b a ≡ true → right.child < left.child
+    pub by_branches_back : is_before t b a ≡ true → right.child < left.child
     by_branches_back e =
         let s = of_before t b a e in
         let o = s.ordered in
