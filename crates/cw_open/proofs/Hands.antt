@@ -1,5 +1,6 @@
 pub mod Alone
 pub mod Apart
+pub mod Around
 pub mod Beneath
 pub mod Beside
 pub mod Drawn

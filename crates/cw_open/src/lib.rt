@@ -7,10 +7,12 @@
 //! `specs/LeftFirst.antt` is about runs in which each fork's left strand finishes before its right one steps. There no
 //! access is refused, and what is to the left of a stamp is older than it.
 //! `specs/Left.antt` says what a run leaves, and `specs/Reordered.antt` that this is true in depth-first order too.
-//! `specs/Hands.antt` says what the steps of other strands leave unchanged.
+//! `specs/Hands.antt` says what the steps of other strands leave unchanged, `specs/Around.antt` what they leave of the
+//! nodes around a strand, and `specs/Judged.antt` what a strand has learned of accesses.
 //! `specs/Worked.antt`, `specs/WorkedTimes.antt` and `specs/WorkedHands.antt` try them.
 #![tactic(auto)]
 
+ghost use Rattle.cw_open.specs.Around.{AroundStays};
 ghost use Rattle.cw_open.specs.Hands.{AheadIsNext, AllowedAtAnyTime, BeneathIsOwn, ConflictsAreTold, DrawnStay, EndStampsStay, ForkersRunAgain, JoinsLeaveAlone, MetInTimeStays, MetStays, NewestStay, NextStampsStay, NoneConflictsMore, OthersLeaveAlone, PlacesPart, RunsAreInTime, RunsBegin, RunsGoOn, StrandsMayJoin, TimesAreLow};
 ghost use Rattle.cw_open.specs.Laws.{AtOnceIsAtAnyTime, BlocksHaveEnded, CancelsAreRight, CancelsNameCells, CellsFit, ClocksAreLatest, DyingRollBack, FreeAreSafe, ListsAreChains, ListsAreLive, ListsHaveAll, ListsRise, OpenAreNested, OwnAccessesAreFree, RefusalsAreTold, StrandsStandAtPlaces, TreesAreSound, VictimsAreAbove};
 ghost use Rattle.cw_open.specs.Left.{HistoriesAreInOrder, HistoriesAreLeft};
@@ -216,6 +218,12 @@ pub fn strands_join()
     ensures may { StrandsMayJoin }
     ensures again { ForkersRunAgain }
     ensures alone { JoinsLeaveAlone }
+{}
+
+/// A step of another strand leaves what is around a running strand. Its place, and each node above that, is as it was, with the same
+/// nodes in it and the same pending blocks around it, at their attempts. Of each access the same block is the victim.
+pub fn others_leave_around()
+    ensures around { AroundStays }
 {}
 
 /// What the definitions say of small runs.
