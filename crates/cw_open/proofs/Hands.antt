@@ -5,5 +5,6 @@ pub mod Beneath
 pub mod Beside
 pub mod Drawn
 pub mod Joined
+pub mod Judged
 pub mod Met
 pub mod Timed

@@ -1,5 +1,6 @@
 pub mod Around
 pub mod Hands
+pub mod Judged
 pub mod Laws
 pub mod Left
 pub mod LeftFirst

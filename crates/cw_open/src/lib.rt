@@ -14,6 +14,7 @@
 
 ghost use Rattle.cw_open.specs.Around.{AroundStays};
 ghost use Rattle.cw_open.specs.Hands.{AheadIsNext, AllowedAtAnyTime, BeneathIsOwn, ConflictsAreTold, DrawnStay, EndStampsStay, ForkersRunAgain, JoinsLeaveAlone, MetInTimeStays, MetStays, NewestStay, NextStampsStay, NoneConflictsMore, OthersLeaveAlone, PlacesPart, RunsAreInTime, RunsBegin, RunsGoOn, StrandsMayJoin, TimesAreLow};
+ghost use Rattle.cw_open.specs.Judged.{AccessesStay, BarredAreMet, BarredArePart, FreeStay, WithinStay};
 ghost use Rattle.cw_open.specs.Laws.{AtOnceIsAtAnyTime, BlocksHaveEnded, CancelsAreRight, CancelsNameCells, CellsFit, ClocksAreLatest, DyingRollBack, FreeAreSafe, ListsAreChains, ListsAreLive, ListsHaveAll, ListsRise, OpenAreNested, OwnAccessesAreFree, RefusalsAreTold, StrandsStandAtPlaces, TreesAreSound, VictimsAreAbove};
 ghost use Rattle.cw_open.specs.Left.{HistoriesAreInOrder, HistoriesAreLeft};
 ghost use Rattle.cw_open.specs.LeftFirst.{AtOnceIsWhilePending, LeftFirstAreOlder, LeftFirstHaveFinished, LeftFirstIsUnrefused};
@@ -224,6 +225,21 @@ pub fn strands_join()
 /// nodes in it and the same pending blocks around it, at their attempts. Of each access the same block is the victim.
 pub fn others_leave_around()
     ensures around { AroundStays }
+{}
+
+/// What a strand learned of an access stays so. The access keeps its name. If no pending block is above it, none ever is. If the
+/// nearest one is around the strand's place, a step of another leaves it the nearest.
+pub fn verdicts_stay()
+    ensures accesses { AccessesStay }
+    ensures free { FreeStay }
+    ensures within { WithinStay }
+{}
+
+/// If a pending block above an access is not around the place of a running strand, the access is parallel to that place, and a
+/// conflict can tell this, in time. The access need not be the newest.
+pub fn barred_are_told()
+    ensures parallel { BarredArePart }
+    ensures met { BarredAreMet }
 {}
 
 /// What the definitions say of small runs.
