@@ -6,5 +6,6 @@ pub mod Beside
 pub mod Drawn
 pub mod Joined
 pub mod Judged
+pub mod Looked
 pub mod Met
 pub mod Timed

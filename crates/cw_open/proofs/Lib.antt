@@ -6,5 +6,6 @@ pub mod Refused
 pub mod Reordered
 pub mod Runs
 pub mod Times
+pub mod WorkedAround
 pub mod WorkedHands
 pub mod WorkedTimes

@@ -4,6 +4,7 @@ pub mod Judged
 pub mod Laws
 pub mod Left
 pub mod LeftFirst
+pub mod Looked
 pub mod Machine
 pub mod Open
 pub mod Reads
@@ -14,5 +15,6 @@ pub mod Spent
 pub mod Steps
 pub mod Times
 pub mod Worked
+pub mod WorkedAround
 pub mod WorkedHands
 pub mod WorkedTimes

@@ -8,8 +8,9 @@
 //! access is refused, and what is to the left of a stamp is older than it.
 //! `specs/Left.antt` says what a run leaves, and `specs/Reordered.antt` that this is true in depth-first order too.
 //! `specs/Hands.antt` says what the steps of other strands leave unchanged, `specs/Around.antt` what they leave of the
-//! nodes around a strand, and `specs/Judged.antt` what a strand has learned of accesses.
-//! `specs/Worked.antt`, `specs/WorkedTimes.antt` and `specs/WorkedHands.antt` try them.
+//! nodes around a strand, `specs/Judged.antt` what a strand has learned of accesses, and `specs/Looked.antt` what it found
+//! beneath its block.
+//! `specs/Worked.antt`, `specs/WorkedTimes.antt`, `specs/WorkedHands.antt` and `specs/WorkedAround.antt` try them.
 #![tactic(auto)]
 
 ghost use Rattle.cw_open.specs.Around.{AroundStays};
@@ -18,11 +19,13 @@ ghost use Rattle.cw_open.specs.Judged.{AccessesStay, BarredAreMet, BarredArePart
 ghost use Rattle.cw_open.specs.Laws.{AtOnceIsAtAnyTime, BlocksHaveEnded, CancelsAreRight, CancelsNameCells, CellsFit, ClocksAreLatest, DyingRollBack, FreeAreSafe, ListsAreChains, ListsAreLive, ListsHaveAll, ListsRise, OpenAreNested, OwnAccessesAreFree, RefusalsAreTold, StrandsStandAtPlaces, TreesAreSound, VictimsAreAbove};
 ghost use Rattle.cw_open.specs.Left.{HistoriesAreInOrder, HistoriesAreLeft};
 ghost use Rattle.cw_open.specs.LeftFirst.{AtOnceIsWhilePending, LeftFirstAreOlder, LeftFirstHaveFinished, LeftFirstIsUnrefused};
+ghost use Rattle.cw_open.specs.Looked.{BeneathStays, LooksStay, NewestAreBeneath, OneBlockHas};
 ghost use Rattle.cw_open.specs.Reads.{ReadsAreMet};
 ghost use Rattle.cw_open.specs.Reordered.{CancelsStay, CellsStay, EndsStay, FaultsStay, JournalsStay, RefusalsStay, RollsBackStays};
 ghost use Rattle.cw_open.specs.Refused.{AbortedAreVictims, AheadIsTimely, AskersAreTried, AtOnceIsTold, CommittedAreSafe, ConflictsAreRecorded, DeadGoBack, DyingGoBack, StopsAreLeftOut, ToldIsAtAnyTime};
 ghost use Rattle.cw_open.specs.Spent.{SpentAreInOrder};
 ghost use Rattle.cw_open.specs.Worked.{Beneath, GivenUp, Inside, InnerCommitted, LeftStrands, Outer, Twice};
+ghost use Rattle.cw_open.specs.WorkedAround.{TwoBlocks};
 ghost use Rattle.cw_open.specs.WorkedHands.{BroughtByOther, TwoHands};
 ghost use Rattle.cw_open.specs.WorkedTimes.{DrawnEarly, RefusedLate};
 
@@ -242,6 +245,16 @@ pub fn barred_are_told()
     ensures met { BarredAreMet }
 {}
 
+/// If an access may conflict only with the newest one, and a list has an access beneath the block of a running strand, then its
+/// newest one is beneath that block too, and none is beneath the block of another. So a step of another leaves the list. In any
+/// case it leaves whether the block wrote the cell, and what the cell had before.
+pub fn looks_stay()
+    ensures newest { NewestAreBeneath }
+    ensures one { OneBlockHas }
+    ensures list { BeneathStays }
+    ensures looks { LooksStay }
+{}
+
 /// What the definitions say of small runs.
 pub fn worked_runs()
     ensures inside { Inside }
@@ -266,4 +279,9 @@ pub fn worked_times()
 pub fn worked_hands()
     ensures hands { TwoHands }
     ensures brought { BroughtByOther }
+{}
+
+/// What they say of a small run in which two strands have blocks, write, and one ends its block.
+pub fn worked_around()
+    ensures { TwoBlocks }
 {}

@@ -31,7 +31,7 @@ has_in us s e =
     let P : ℕ → Type 0 = λ n. In n us in
     subst P (eqb-true z.0 s z.2) z.1
 
-newest_single : (us : List ℕ) (v w : ℕ) (ns : List ℕ) → newest us ≡ v ∷ w ∷ ns → ⊥
+pub newest_single : (us : List ℕ) (v w : ℕ) (ns : List ℕ) → newest us ≡ v ∷ w ∷ ns → ⊥
 newest_single [] v w ns e = absurd (cc e)
 newest_single (u ∷ []) v w ns e = absurd (cc e)
 newest_single (u ∷ x ∷ us) v w ns e = newest_single (x ∷ us) v w ns e
@@ -53,7 +53,7 @@ module _ (t : List Node) (r : IsRooted t) (p : ℕ) (pending : is_pending t p �
         ]
 
   -- the newest of a chain stands beneath a pending block where any of it does
-  newest_over : (f : ℕ → ℕ) (us : List ℕ) → AreThere t (map f us) → IsChain t (map f us) → (u : ℕ) → In u us → is_above t p (f u) ≡ true → (v : ℕ) → newest us ≡ v ∷ [] → is_above t p (f v) ≡ true
+  pub newest_over : (f : ℕ → ℕ) (us : List ℕ) → AreThere t (map f us) → IsChain t (map f us) → (u : ℕ) → In u us → is_above t p (f u) ≡ true → (v : ℕ) → newest us ≡ v ∷ [] → is_above t p (f v) ≡ true
   newest_over f [] h c u i o v q = absurd i
   newest_over f (x ∷ []) h c u (inl e) o v q =
       let same : x ≡ v = cc q in

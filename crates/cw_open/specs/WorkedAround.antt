@@ -1,0 +1,71 @@
+-- A small run with two strands in blocks of their own. One of them writes, and ends its block. What is around the other stays, and so
+-- does what that one learned of the write, and what it found beneath its own block.
+use Rattle.std.specs.Prelude.{◌≡◌, ℕ, ℤ, List, [], ◌∷◌, ◌++◌, Some, None, true, false, pos}
+use Rattle.cw_tree.specs.Nodes.{is_pending}
+use Rattle.cw_tree.specs.Walks.{nua, is_ancestor}
+use Rattle.cw_tree.specs.Series.{place, children, parallel}
+use Rattle.cw_tree.specs.Attempts.{block_attempt}
+use Rattle.cw_tree.specs.AccessStacks.{access_at}
+use Rattle.cw_tree.specs.VictimsAt.{victim_at}
+use Rattle.cw_tree.specs.Newest.{newest}
+use Rattle.cw_open.specs.Machine.{OpenMachine, live, is_free}
+use Rattle.cw_open.specs.Steps.{Step, forks, begins, accesses, outputs, commits, after_all, first_machine}
+use Rattle.cw_open.specs.Runs.{IsRun, IsMet, at_any_time}
+use Rattle.cw_open.specs.Around.{blocks_at, begins_at}
+use Rattle.cw_open.specs.Judged.{IsBarredBy, met_of}
+use Rattle.cw_open.specs.Looked.{IsBeneath, accesses_of, IsFound}
+
+-- two cells, which have the value 0
+abbrev pub two_cells : List ℤ
+two_cells = pos 0 ∷ pos 0 ∷ []
+
+abbrev pub led_to : List Step → OpenMachine
+led_to es = after_all (first_machine two_cells) es
+
+-- a block forks, and each strand begins a block; the left one writes the first cell, the right one the second
+abbrev pub both_wrote : List Step
+both_wrote = begins 0 1 ∷ forks 0 2 ∷ begins 3 3 ∷ begins 4 4 ∷ accesses 3 0 (Some (pos 7)) 5 ∷ accesses 4 1 (Some (pos 8)) 6 ∷ []
+
+-- the left one ends its block
+abbrev pub left_closed : List Step
+left_closed = both_wrote ++ commits 3 7 ∷ []
+
+-- the right one reads what it wrote
+abbrev pub right_took : List Step
+right_took = left_closed ++ accesses 4 0 None 8 ∷ []
+
+pub record TwoBlocks : Type 0 where
+  pub run : IsRun (at_any_time (λ t us w. newest us)) (first_machine two_cells) right_took
+  -- around the place of the right strand, before and after the other one ends its block
+  pub stands : place (led_to both_wrote).tree 4 ≡ 6
+  pub blocks : blocks_at (led_to both_wrote).tree 6 ≡ 6 ∷ 1 ∷ []
+  pub begins : begins_at (led_to both_wrote).tree 6 ≡ 4 ∷ 1 ∷ []
+  pub inside : children (led_to both_wrote).tree 6 ≡ 8 ∷ []
+  pub victim : victim_at (led_to both_wrote).tree 7 6 ≡ Some 6
+  pub still_blocks : blocks_at (led_to left_closed).tree 6 ≡ 6 ∷ 1 ∷ []
+  pub still_begins : begins_at (led_to left_closed).tree 6 ≡ 4 ∷ 1 ∷ []
+  pub still_inside : children (led_to left_closed).tree 6 ≡ 8 ∷ []
+  pub still_victim : victim_at (led_to left_closed).tree 7 6 ≡ Some 6
+  -- around that of the left one it is different
+  pub left_blocks : blocks_at (led_to both_wrote).tree 5 ≡ 5 ∷ 1 ∷ []
+  pub left_ended : blocks_at (led_to left_closed).tree 5 ≡ 1 ∷ []
+  -- the block of the left strand bars its write from the right one
+  pub barred : IsBarredBy (led_to both_wrote).tree 7 5 6
+  pub apart : parallel (led_to both_wrote).tree 7 6 ≡ true
+  pub met : IsMet (led_to both_wrote).tree 6 0 (met_of 5 3)
+  -- When the block has ended, the nearest one is around the right strand too. That one's own step leaves this.
+  pub nearest : nua (led_to both_wrote).tree 7 ≡ Some 5
+  pub within : nua (led_to left_closed).tree 7 ≡ Some 1
+  pub still_within : nua (led_to right_took).tree 7 ≡ Some 1
+  pub named : access_at (led_to right_took).tree 5 ≡ 7
+  -- the block of main has none above it
+  pub free : nua (led_to both_wrote).tree 1 ≡ None
+  pub still_free : nua (led_to right_took).tree 1 ≡ None
+  -- the write of the right strand is the newest of its cell, before and after
+  pub beneath : IsBeneath (led_to both_wrote) 4 1 6
+  pub last : newest (live (led_to both_wrote) 1) ≡ 6 ∷ []
+  pub list : live (led_to left_closed) 1 ≡ 6 ∷ []
+  -- it finds that it wrote the second cell, and what that had before; and that it did not write the first one
+  pub found : IsFound (led_to both_wrote) 6 1 true (pos 0)
+  pub still_found : IsFound (led_to left_closed) 6 1 true (pos 0)
+  pub not_found : IsFound (led_to both_wrote) 6 0 false (pos 0)
