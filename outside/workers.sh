@@ -1,11 +1,12 @@
 #!/usr/bin/env bash
-# Runs programs by several workers, over and over, and counts how the runs end: each example of examples/ that `run` takes and each program of
-# the list below with 2, 3, 4 and 8 workers, and generated programs with the same numbers in turn. Where the schedule cannot show, the text and
-# the status are those of `--workers 1`. Status 8 is told with all of the program: the record of that run did not replay, so it is a bug.
+# Runs programs by several workers, over and over, and counts how the runs end: each example of examples/ that `run` takes, each program of
+# outside/threads/ and each program of the list below with 2, 3, 4 and 8 workers, and generated programs with the same numbers in turn. If the
+# result cannot depend on the schedule, the text and the status must be those of `--workers 1`. A run that does not begin (status 2 or 5) is
+# wrong, too. For status 8 the whole program is printed: the record of that run did not replay, so it is a bug.
 # It takes minutes, and is run by hand.
 # Usage: outside/workers.sh PROGRAM [TIMES] [GENERATED] [EACH], with the program as the gate builds it: crates/cwstm/out/cwstm, once `rt ci` has
 # passed. TIMES: runs of each program with each number of workers (500); GENERATED: so many generated programs (200), each run EACH times (50).
-# Ends with a table of statuses and the line 'N runs, M wrong', and with status 1 where one is wrong.
+# Ends with a table of statuses and the line 'N runs, of which K had a spawn in their program, M wrong', and with status 1 if one is wrong.
 set -u
 program=$(realpath "${1:?the program}")
 times=${2:-500}
@@ -17,6 +18,7 @@ trap 'rm -rf "$folder"' EXIT
 cd "$folder" || exit 1
 numbers=(2 3 4 8)
 runs=0
+forking=0
 wrong=0
 declare -A statuses
 
@@ -46,9 +48,10 @@ once() {
   status=0
   timeout 60 "$program" run --workers "$workers" "$@" < source > text 2> note || status=$?
   runs=$((runs + 1))
+  if grep -q 'spawn' source; then forking=$((forking + 1)); fi
   statuses[$status]=$((${statuses[$status]:-0} + 1))
   case $status in
-    0 | 2 | 5 | 6 | 7) ;;
+    0 | 6 | 7) ;;
     8) tell 'STATUS 8, THE RECORD DOES NOT REPLAY' "$name" "$workers" "$@" ;;
     124) tell 'NO END IN 60 SECONDS' "$name" "$workers" "$@" ;;
     *) tell "STATUS $status" "$name" "$workers" "$@" ;;
@@ -70,24 +73,45 @@ often() {
 
 # ## Examples
 
-# of these the schedule cannot show: what they give does not depend on which of two strands comes first
-same='array count counter divisor fault fault.none halves loop semicolon spawned fault.words'
+# the results of these do not depend on the schedule
+same='array count counter divisor fault fault.none halves loop spawned'
+
+# without_workers WORD..: the words, a line each, without the option --workers
+without_workers() {
+  while [ "$#" -gt 0 ]; do
+    case $1 in
+      --workers) shift ;;
+      --workers=*) ;;
+      *) printf '%s\n' "$1" ;;
+    esac
+    shift
+  done
+}
 
 for file in "$root"/examples/*.args; do
   run=$(basename "$file" .args)
   read -r -a words < "$file"
   [ "${words[0]}" = run ] || continue
+  case $(cat "${file%.args}.status" 2> /dev/null) in 2 | 5) continue ;; esac
+  mapfile -t words < <(without_workers "${words[@]:1}")
   cp "$root/examples/${run%%.*}.cw" source
   kind=any
   case " $same " in *" $run "*) kind=same ;; esac
-  often "$kind" "example $run" "${words[@]:1}"
+  often "$kind" "example $run" ${words[@]+"${words[@]}"}
 done
 
-# those whose words name the workers' turns, by threads
+# these name the turns of their workers; here they run on threads
 for run in alone order refused undone; do
   cp "$root/examples/$run.cw" source
   often any "example $run"
   often any "example $run, one attempt" --aborts 1
+done
+
+# ## Programs in files
+
+for file in "$root"/outside/threads/*.cw; do
+  cp "$file" source
+  often any "$(basename "$file")" --fuel 1000000000
 done
 
 # ## Programs
@@ -111,6 +135,7 @@ row any 'joined inside a block' <<< 'cell c; cell d; fn main() { spawn { atomic 
 row any 'an abort after an inner commit' <<< 'cell a = 7; cell b = 8; cell c; fn main() { spawn { atomic { c = 1; } } atomic { atomic { a = a + 1; } b = b + 1; c = 2; } }'
 row same 'a fault in a block' <<< 'cell c; cell d; fn main() { atomic { c = 1; d = 1 / d; } }'
 row same 'a fault beside a block' <<< 'cell c; cell d; fn main() { spawn { atomic { c = 1; c = 2; } } atomic { spawn { c = 3; } d = 1 / d; } }'
+row any 'few attempts, so that a budget may be spent' --aborts 2 <<< 'cell c; cell d; fn w(n) { let i = 0; while i < n { i = i + 1; } } fn main() { let i = 0; while i < 20 { spawn { atomic { c = c + 1; w(200); d = d + 1; } } spawn { atomic { d = d + 1; w(200); c = c + 1; } } i = i + 1; } }'
 row any 'one attempt each' --aborts 1 <<< 'cell c; fn main() { let i = 0; while i < 20 { spawn { atomic { c = c + 1; } } i = i + 1; } }'
 
 for _ in $(seq "$((times / 10 + 1))"); do
@@ -135,5 +160,5 @@ done
 for status in $(printf '%s\n' "${!statuses[@]}" | sort -n); do
   printf 'status %3s: %s\n' "$status" "${statuses[$status]}"
 done
-echo "$runs runs, $wrong wrong"
+echo "$runs runs, of which $forking had a spawn in their program, $wrong wrong"
 [ "$wrong" = 0 ]
