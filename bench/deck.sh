@@ -36,7 +36,7 @@ ghost use Rattle.std.specs.Prelude.{◌≡◌};
 
 use cw_base::OutOfMemory;
 use cw_deck::{Deck, Thief};
-use cw_pair::{Naming, Opened, Pairs, Source};
+use cw_pair::{TableName, Opened, Pairs, Source};
 use std::alloc::Global;
 use std::hint::black_box;
 use std::io;
@@ -51,7 +51,7 @@ const CALLS: u32 = 200_000;
 const ROUNDS: u32 = 5;
 
 #[derive(Drop)]
-struct Hand<N: Naming> {
+struct Hand<N: TableName> {
     deck: Deck<u32>,
     thief: Thief<u32>,
     source: Source<u32, N>,
@@ -89,7 +89,7 @@ fn fill(deck: &mut Deck<u32>) {
     }
 }
 
-fn pair_and_meet<N: Naming>(pairs: &Pairs<u32, N>, source: &mut Source<u32, N>) -> u64 {
+fn pair_and_meet<N: TableName>(pairs: &Pairs<u32, N>, source: &mut Source<u32, N>) -> u64 {
     let mut sum = 0u64;
     for task in 0..CALLS {
         if source.has_more() {
@@ -126,7 +126,7 @@ fn tenths(nanos: u128) -> u64 {
     whole.saturating_mul(10).checked_div(u64::from(CALLS)).unwrap_or(0)
 }
 
-fn timed<R: Wait + Clock, N: Naming>(
+fn timed<R: Wait + Clock, N: TableName>(
     rt: &R,
     hand: &mut Hand<N>,
     pairs: &Pairs<u32, N>,
@@ -171,7 +171,7 @@ fn least(a: Times, b: Times) -> Times {
     }
 }
 
-fn rounds<R: Wait + Clock, N: Naming>(rt: &R, hand: Hand<N>, pairs: &Pairs<u32, N>) -> Times {
+fn rounds<R: Wait + Clock, N: TableName>(rt: &R, hand: Hand<N>, pairs: &Pairs<u32, N>) -> Times {
     let mut hand = hand;
     let mut best = NO_TIMES;
     for _ in 0..ROUNDS {
@@ -182,7 +182,7 @@ fn rounds<R: Wait + Clock, N: Naming>(rt: &R, hand: Hand<N>, pairs: &Pairs<u32, 
     best
 }
 
-fn hands<N: Naming>(
+fn hands<N: TableName>(
     alloc: Global,
     pairs: &Pairs<u32, N>,
     source: &mut Source<u32, N>,
@@ -203,7 +203,7 @@ fn hands<N: Naming>(
     Ok(hands)
 }
 
-fn run<N: Naming, R: Threads + Wait + Clock + Sync>(
+fn run<N: TableName, R: Threads + Wait + Clock + Sync>(
     rt: &R,
     alloc: Global,
     opened: Opened<u32>,

@@ -10,7 +10,7 @@ use Rattle.cw_trace.specs.declared.verdict.Verdict.{Verdict}
 use Rattle.cw_tree.specs.declared.access.Mark.{Mark}
 use Rattle.cw_trace.specs.Told.{Owner, Lead, Up, Word, Inside, Number, Maybe, Test, Stays}
 use Rattle.cw_steps.specs.declared.table.StrandToken.{StrandToken}
-use Rattle.cw_steps.specs.declared.view.Note.{Note}
+use Rattle.cw_steps.specs.declared.view.WordNote.{WordNote}
 use Rattle.cw_steps.specs.declared.view.Slot.{Slot}
 use Rattle.cw_steps.specs.declared.view.View.{View}
 use Rattle.cw_steps.specs.Places.{gap_word}
@@ -50,7 +50,7 @@ since_is t u h =
     (λ i. take (many i) (all i)) ∙ take_at h.notes (view_of t).notes (length h.notes) refl
 
 -- an answer stays one when more is noted
-told_more : (c : ColumnTable) (cells : ℕ) (more notes : List Note) → Stays (ToldBy c cells notes) (ToldBy c cells (more ++ notes))
+told_more : (c : ColumnTable) (cells : ℕ) (more notes : List WordNote) → Stays (ToldBy c cells notes) (ToldBy c cells (more ++ notes))
 told_more c cells more notes (Owner i) a h = h
 told_more c cells more notes (Lead t) a h = h
 told_more c cells more notes (Up t) a h = h
@@ -61,7 +61,7 @@ told_more c cells more notes (Word g) (Test b) h = h
 
 -- a word was read
 module _ (c : ColumnTable) (cells gap value : ℕ) (t u u' : StrandToken) (h : HasRead t u) (g : HasRead t u') (more : g.notes ≡ record { word = gap_word cells gap; value = value } ∷ h.notes) where
-  abbrev note : Note
+  abbrev note : WordNote
   note = record { word = gap_word cells gap; value = value }
 
   pub told_still : Stays (ToldBy c cells (noted_since t u)) (ToldBy c cells (noted_since t u'))
@@ -118,7 +118,7 @@ over_read b y t u u' h g =
     }
 
 -- the notes of one question stay in a row
-pub answered_later : (cells asker : ℕ) (last : Mark) (u u' : StrandToken) (more : List Note) (v : Verdict) → (view_of u').notes ≡ more ++ (view_of u).notes → IsAnswered cells last asker u v → IsAnswered cells last asker u' v
+pub answered_later : (cells asker : ℕ) (last : Mark) (u u' : StrandToken) (more : List WordNote) (v : Verdict) → (view_of u').notes ≡ more ++ (view_of u).notes → IsAnswered cells last asker u v → IsAnswered cells last asker u' v
 answered_later cells asker last u u' more v e h = record {
   tier = h.tier;
   newer = more ++ h.newer;

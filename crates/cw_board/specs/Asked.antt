@@ -11,7 +11,7 @@ use Rattle.cw_trace.specs.declared.verdict.Verdict.TheVariants.{Against}
 use Rattle.cw_log.specs.declared.board.Access.{Access}
 use Rattle.cw_log.specs.declared.board.Access.TheVariants.{Value, Conflict}
 use Rattle.cw_steps.specs.declared.table.StrandToken.{StrandToken}
-use Rattle.cw_steps.specs.declared.view.Note.{Note}
+use Rattle.cw_steps.specs.declared.view.WordNote.{WordNote}
 use Rattle.cw_steps.specs.Places.{gap_word}
 use Rattle.cw_steps.specs.Stands.{token_of}
 use Rattle.cw_steps.specs.Views.{held_by, view_of, IsTokenOf}
@@ -19,24 +19,24 @@ use Rattle.cw_board.specs.declared.board.Board.{Board}
 use Rattle.cw_board.specs.Boards.{cells_in, columns_of}
 
 -- the notes that the token made since it was `t`, newest first
-abbrev pub noted_since : (t u : StrandToken) → List Note
+abbrev pub noted_since : (t u : StrandToken) → List WordNote
 noted_since t u = take (length (view_of u).notes - length (view_of t).notes) (view_of u).notes
 
 -- since it was `t`, the token only read words
 pub record HasRead (t u : StrandToken) : Type 0 where
-  pub notes : List Note
+  pub notes : List WordNote
   pub me : u.seat.me ≡ (record (view_of t) { notes = notes ++ (view_of t).notes }, held_by t)
   pub table : u.seat.table_id ≡ t.seat.table_id
   pub track : u.track ≡ t.track
   pub token : token_of u ≡ token_of t
 
 -- the word of gap `g` was noted to be `n`; a gap that is not in use reads as 0
-pub record IsNoted (c : ColumnTable) (cells : ℕ) (notes : List Note) (g n : ℕ) : Type 0 where
+pub record IsNoted (c : ColumnTable) (cells : ℕ) (notes : List WordNote) (g n : ℕ) : Type 0 where
   pub word : g < columns.used c → Contains notes (record { word = gap_word cells g; value = n })
   pub none : columns.used c ≤ g → n ≡ 0
 
 -- what the columns of a tier tell, and what notes tell of gap words
-abbrev pub ToldBy : ColumnTable → (cells : ℕ) → List Note → Read → Answer → Type 0
+abbrev pub ToldBy : ColumnTable → (cells : ℕ) → List WordNote → Read → Answer → Type 0
 ToldBy c cells notes (Owner i) a = held c [] (Owner i) ≡ a
 ToldBy c cells notes (Lead t) a = held c [] (Lead t) ≡ a
 ToldBy c cells notes (Up t) a = held c [] (Up t) ≡ a
@@ -76,9 +76,9 @@ ReadsFor (Some q) b lent c = IsReading q b lent c
 -- one row. Nothing says that these columns were the board's.
 pub record IsAnswered (cells : ℕ) (last : Mark) (asker : ℕ) (u : StrandToken) (v : Verdict) : Type 0 where
   pub tier : ColumnTable
-  pub newer : List Note
-  pub notes : List Note
-  pub older : List Note
+  pub newer : List WordNote
+  pub notes : List WordNote
+  pub older : List WordNote
   pub noted : (view_of u).notes ≡ newer ++ notes ++ older
   pub gives : Gives (ToldBy tier cells notes) last asker v
 

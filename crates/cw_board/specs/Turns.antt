@@ -4,7 +4,7 @@ use Rattle.cw_steps.specs.declared.draw.Aim.{Aim}
 use Rattle.cw_steps.specs.declared.draw.Home.{Home}
 use Rattle.cw_steps.specs.declared.draw.Home.TheVariants as home
 use Rattle.cw_steps.specs.declared.table.StrandToken.{StrandToken}
-use Rattle.cw_steps.specs.declared.view.Note.{Note}
+use Rattle.cw_steps.specs.declared.view.WordNote.{WordNote}
 use Rattle.cw_steps.specs.Stands.{drawn_token, token_of}
 use Rattle.cw_steps.specs.declared.view.Slot.{Slot}
 use Rattle.cw_steps.specs.declared.view.View.{View}
@@ -20,7 +20,7 @@ use Rattle.cw_board.specs.declared.board.Board.{Board}
 
 -- the token found turns taken, and did nothing else
 pub record HasWaited (t t' : StrandToken) : Type 0 where
-  pub notes : List Note
+  pub notes : List WordNote
   pub me : t'.seat.me ≡ (record (view_of t) { notes = notes }, held_by t)
   pub track : t'.track ≡ t.track
   pub stop : t'.stop ≡ t.stop
@@ -28,7 +28,7 @@ pub record HasWaited (t t' : StrandToken) : Type 0 where
 
 -- it found turns taken, and then took the turn of slot `n`
 pub record HasTaken (b : Board) (aim : Aim) (n : ℕ) (t t' : StrandToken) : Type 0 where
-  pub notes : List Note
+  pub notes : List WordNote
   pub takes : TakesIt (key_of b.shared) aim n (record (view_of t) { notes = notes }, held_by t) t'.seat.me
   pub track : t'.track ≡ t.track
   pub stop : t'.stop ≡ t.stop

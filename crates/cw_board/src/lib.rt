@@ -21,4 +21,4 @@ mod turns;
 mod victims;
 
 pub use board::Board;
-pub use named::{NamedBoard, NamedToken, Naming};
+pub use named::{BoardName, NamedBoard, NamedToken};

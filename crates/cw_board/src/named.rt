@@ -15,7 +15,7 @@ use std::marker::{Brand, Model, PhantomData};
 use std::sync::Wait;
 
 /// Names a table, and the number of columns that its tier may have. Each run picks it.
-pub trait Naming: Send + Sync {
+pub trait BoardName: Send + Sync {
     ghost use Rattle.std.specs.Prelude.{ℕ};
     ghost use Rattle.atomic_table.specs.Seated.{TableId};
 
@@ -24,7 +24,7 @@ pub trait Naming: Send + Sync {
     ghost columns: { ℕ };
 }
 
-impl Naming for Brand {
+impl BoardName for Brand {
     ghost use Rattle.cw_board.specs.Boards.{no_table};
 
     ghost table = { no_table };
@@ -34,19 +34,19 @@ impl Naming for Brand {
 
 /// A board whose table is `N.table`. Contracts see the number of its cells, and the most attempts of a block or an access.
 #[derive(Drop)]
-pub struct NamedBoard<N: Naming> {
+pub struct NamedBoard<N: BoardName> {
     board: Board,
     of: PhantomData<N>,
 }
 
 /// A token of the board whose table is `N.table`. Contracts see what it stands for.
 #[derive(Drop)]
-pub struct NamedToken<N: Naming> {
+pub struct NamedToken<N: BoardName> {
     token: StrandToken,
     of: PhantomData<N>,
 }
 
-impl<N: Naming> Model for NamedToken<N> {
+impl<N: BoardName> Model for NamedToken<N> {
     ghost use Rattle.cw_log.specs.declared.token.Token.{Token};
     ghost use Rattle.cw_steps.specs.Stands.{token_of};
     ghost use Rattle.cw_board.specs.Boards.{IsAt};
@@ -58,7 +58,7 @@ impl<N: Naming> Model for NamedToken<N> {
     ghost invariant = { λ t. IsAt N.table N.columns t.token };
 }
 
-impl<N: Naming> Model for NamedBoard<N> {
+impl<N: BoardName> Model for NamedBoard<N> {
     ghost use Rattle.std.specs.Prelude.{◌≡◌};
     ghost use Rattle.cw_board.specs.Boards.{budget_of, cells_in, columns_of, table_of, Extent};
 
@@ -71,7 +71,7 @@ impl<N: Naming> Model for NamedBoard<N> {
 
 impl Board {
     /// Returns the board and a token of it with the name of their table in their types.
-    pub fn named<N: Naming>(self, token: StrandToken) -> (NamedBoard<N>, NamedToken<N>)
+    pub fn named<N: BoardName>(self, token: StrandToken) -> (NamedBoard<N>, NamedToken<N>)
         requires of { IsOf self token }
         requires name { (table_of self ≡ N.table) × (columns_of self ≡ N.columns) }
         ensures board { result.0 ≡ record { cells = cells_in self; budget = budget_of self } }
@@ -89,7 +89,7 @@ impl Board {
     }
 }
 
-impl<N: Naming> NamedBoard<N> {
+impl<N: BoardName> NamedBoard<N> {
     /// Closes the board with the root's token, to which all others were joined, as `Board::close` does. If memory runs out, it
     /// gives back board and token.
     pub fn close(
@@ -119,7 +119,7 @@ impl<N: Naming> NamedBoard<N> {
     }
 }
 
-impl<N: Naming> SharedBoard for NamedBoard<N> {
+impl<N: BoardName> SharedBoard for NamedBoard<N> {
     type Token = NamedToken<N>;
 
     ghost of = { λ t. t };

@@ -6,10 +6,10 @@ use lib.ListN.{get_elem?}
 use Rattle.atomic_table.specs.Table.{Me, State, step, keeps, Allows, Splits, Joins}
 use Rattle.atomic_table.proofs.Lists.{at_set, set_again}
 use Rattle.cw_base.proofs.Ends.{snoc_at}
-use Rattle.cw_pair.specs.declared.view.Note.{Note}
+use Rattle.cw_pair.specs.declared.view.Binding.{Binding}
 use Rattle.cw_pair.specs.declared.view.Known.{Known}
 use Rattle.cw_pair.specs.Numbers as numbers
-use Rattle.cw_pair.specs.Numbers.{note, lower, upper, gone, given, both, Has, MayGive, IsKept, looked}
+use Rattle.cw_pair.specs.Numbers.{binding, lower, upper, gone, given, both, Has, MayGive, IsKept, looked}
 
 module _ {T : Type 0} where
   -- ## A view is cut in two
@@ -26,22 +26,22 @@ module _ {T : Type 0} where
       (λ b. Origin.is_right b.0 b.1)
       (snoc_at (set views id left) right u k e)
 
-  module _ (views : List (Known T)) (id : ℕ) (v left right : Known T) (new : Note T) (kept : IsKept views) (at : get_elem? views id ≡ some v) where
-    -- the number of the new note was this seat's, and may be given no more
+  module _ (views : List (Known T)) (id : ℕ) (v left right : Known T) (new : Binding T) (kept : IsKept views) (at : get_elem? views id ≡ some v) where
+    -- the number of the new binding was this seat's, and may be given no more
     record IsSpent : Type 0 where
       was : MayGive v new.number
       not_left : MayGive left new.number → ⊥
       not_right : MayGive right new.number → ⊥
 
-    abbrev Old : Note T → Type 0
-    Old x = (i : ℕ) × (u : Known T) × (get_elem? views i ≡ some u) × Has u.notes x
+    abbrev Old : Binding T → Type 0
+    Old x = (i : ℕ) × (u : Known T) × (get_elem? views i ≡ some u) × Has u.bindings x
 
-    module _ (nl : (x : Note T) → Has left.notes x → Has v.notes x) (nr : (x : Note T) → Has right.notes x → Has v.notes x ⊎ ((new ≡ x) × IsSpent))
+    module _ (nl : (x : Binding T) → Has left.bindings x → Has v.bindings x) (nr : (x : Binding T) → Has right.bindings x → Has v.bindings x ⊎ ((new ≡ x) × IsSpent))
         (gl : (n : ℕ) → MayGive left n → MayGive v n) (gr : (n : ℕ) → MayGive right n → MayGive v n) (apart : (n : ℕ) → MayGive left n → MayGive right n → ⊥) where
-      from : (k : ℕ) (u : Known T) (x : Note T) → Origin views id left right k u → Has u.notes x → Old x ⊎ ((new ≡ x) × IsSpent)
-      from k u x (Origin.is_left e l) h = inl (id, v, at, nl x (subst (λ (w : Known T). Has w.notes x) (sym l) h))
+      from : (k : ℕ) (u : Known T) (x : Binding T) → Origin views id left right k u → Has u.bindings x → Old x ⊎ ((new ≡ x) × IsSpent)
+      from k u x (Origin.is_left e l) h = inl (id, v, at, nl x (subst (λ (w : Known T). Has w.bindings x) (sym l) h))
       from k u x (Origin.is_old n e) h = inl (k, u, e, h)
-      from k u x (Origin.is_right n r) h = ⊎_elim (λ g. inl (id, v, at, g)) (λ g. inr g) (nr x (subst (λ (w : Known T). Has w.notes x) (sym r) h))
+      from k u x (Origin.is_right n r) h = ⊎_elim (λ g. inl (id, v, at, g)) (λ g. inr g) (nr x (subst (λ (w : Known T). Has w.bindings x) (sym r) h))
 
       gives : (k : ℕ) (u : Known T) (n : ℕ) → Origin views id left right k u → MayGive u n → (i : ℕ) × (w : Known T) × (get_elem? views i ≡ some w) × MayGive w n
       gives k u n (Origin.is_left e l) g = (id, v, at, gl n (subst (λ (w : Known T). MayGive w n) (sym l) g))
@@ -53,19 +53,19 @@ module _ {T : Type 0} where
       not_new k u (Origin.is_old o e) s g = kept.apart k id new.number u v o e at g s.was
       not_new k u (Origin.is_right o r) s g = s.not_right (subst (λ (w : Known T). MayGive w new.number) (sym r) g)
 
-      agrees : (x y : Note T) → Old x ⊎ ((new ≡ x) × IsSpent) → Old y ⊎ ((new ≡ y) × IsSpent) → x.number ≡ y.number → x.of ≡ y.of
+      agrees : (x y : Binding T) → Old x ⊎ ((new ≡ x) × IsSpent) → Old y ⊎ ((new ≡ y) × IsSpent) → x.number ≡ y.number → x.of ≡ y.of
       agrees x y (inl a) (inl b) e = let (i, u, p, h) = a in let (j, w, q, g) = b in kept.agree i j u w x y p q h g e
       agrees x y (inl a) (inr b) e =
           let (i, u, p, h) = a in
-          absurd (kept.fresh id i v u x at p h (subst (λ (n : ℕ). MayGive v n) (ap (λ (z : Note T). z.number) b.0 ∙ sym e) b.1.was))
+          absurd (kept.fresh id i v u x at p h (subst (λ (n : ℕ). MayGive v n) (ap (λ (z : Binding T). z.number) b.0 ∙ sym e) b.1.was))
       agrees x y (inr a) (inl b) e =
           let (j, w, q, g) = b in
-          absurd (kept.fresh id j v w y at q g (subst (λ (n : ℕ). MayGive v n) (ap (λ (z : Note T). z.number) a.0 ∙ e) a.1.was))
-      agrees x y (inr a) (inr b) e = ap (λ (z : Note T). z.of) (sym a.0 ∙ b.0)
+          absurd (kept.fresh id j v w y at q g (subst (λ (n : ℕ). MayGive v n) (ap (λ (z : Binding T). z.number) a.0 ∙ e) a.1.was))
+      agrees x y (inr a) (inr b) e = ap (λ (z : Binding T). z.of) (sym a.0 ∙ b.0)
 
-      fresh : (k : ℕ) (u : Known T) (y : Note T) → Origin views id left right k u → Old y ⊎ ((new ≡ y) × IsSpent) → MayGive u y.number → ⊥
+      fresh : (k : ℕ) (u : Known T) (y : Binding T) → Origin views id left right k u → Old y ⊎ ((new ≡ y) × IsSpent) → MayGive u y.number → ⊥
       fresh k u y o (inl b) g = let (j, w, q, h) = b in let (i, z, p, m) = gives k u y.number o g in kept.fresh i j z w y p q h m
-      fresh k u y o (inr b) g = not_new k u o b.1 (subst (λ (n : ℕ). MayGive u n) (ap (λ (z : Note T). z.number) (sym b.0)) g)
+      fresh k u y o (inr b) g = not_new k u o b.1 (subst (λ (n : ℕ). MayGive u n) (ap (λ (z : Binding T). z.number) (sym b.0)) g)
 
       parted : (i j n : ℕ) (u w : Known T) → (i ≡ j → ⊥) → Origin views id left right i u → Origin views id left right j w → MayGive u n → MayGive w n → ⊥
       parted i j n u w ne (Origin.is_left e l) (Origin.is_left f m) g h = ne (e ∙ sym f)
@@ -91,7 +91,7 @@ module _ {T : Type 0} where
   none_may v n e g = let p = g.last in omega (arith, e)
 
   pub shares : {S : Type 0} (id : ℕ) (v : Known T) → Splits {S = S} (λ s. IsKept s.views) id v (lower v) (upper v)
-  shares id v s h at = cut s.views id v (lower v) (upper v) (note 0 Option.None) h at
+  shares id v s h at = cut s.views id v (lower v) (upper v) (binding 0 Option.None) h at
       (λ x a. a)
       (λ x a. absurd a)
       (λ n g. let p = g.first in let q = g.last in record { first = p; last = omega (arith) })
@@ -99,7 +99,7 @@ module _ {T : Type 0} where
       (λ n g k. let p = g.last in let q = k.first in absurd (omega arith))
 
   pub gives_one : {S : Type 0} (id : ℕ) (v : Known T) (m : Option T) → v.first < v.last → Splits {S = S} (λ s. IsKept s.views) id v (gone v) (given v.first m)
-  gives_one id v m some_left s h at = cut s.views id v (gone v) (given v.first m) (note v.first m) h at
+  gives_one id v m some_left s h at = cut s.views id v (gone v) (given v.first m) (binding v.first m) h at
       (λ x a. a)
       (λ x a. ⊎_elim (λ e. inr (
         e,
@@ -114,11 +114,11 @@ module _ {T : Type 0} where
       (λ n g k. let p = k.last in absurd (omega arith))
 
   pub copies : {S : Type 0} (id : ℕ) (v : Known T) → v.last ≡ 0 → Splits {S = S} (λ s. IsKept s.views) id v v v
-  copies id v e s h at = cut s.views id v v v (note 0 Option.None) h at (λ x a. a) (λ x a. inl a) (λ n g. g) (λ n g. g) (λ n g k. none_may v n e g)
+  copies id v e s h at = cut s.views id v v v (binding 0 Option.None) h at (λ x a. a) (λ x a. inl a) (λ n g. g) (λ n g. g) (λ n g k. none_may v n e g)
 
   -- ## Two views are put together
 
-  has_either : (xs ys : List (Note T)) (x : Note T) → Has (xs ++ ys) x → Has xs x ⊎ Has ys x
+  has_either : (xs ys : List (Binding T)) (x : Binding T) → Has (xs ++ ys) x → Has xs x ⊎ Has ys x
   has_either [] ys x h = inr h
   has_either (z ∷ xs) ys x (inl e) = inl (inl e)
   has_either (z ∷ xs) ys x (inr h) = ⊎_elim (λ a. inl (inr a)) (λ b. inr b) (has_either xs ys x h)
@@ -130,11 +130,11 @@ module _ {T : Type 0} where
     was : get_elem? views other ≡ some w
     was = ⊎_elim (λ (t : (other ≡ id) × (both v w ≡ w)). absurd (apart t.0)) (λ (t : (other ≡ id → ⊥) × (get_elem? views other ≡ some w)). t.1) (at_set views id other (both v w) w there_too)
 
-    noted : (k : ℕ) (u : Known T) (x : Note T) → get_elem? after k ≡ some u → Has u.notes x → (i : ℕ) × (z : Known T) × (get_elem? views i ≡ some z) × Has z.notes x
-    noted k u x e h = ⊎_elim
-        (λ (t : (k ≡ other) × (numbers.none ≡ u)). absurd (subst (λ (z : Known T). Has z.notes x) (sym t.1) h))
+    was_bound : (k : ℕ) (u : Known T) (x : Binding T) → get_elem? after k ≡ some u → Has u.bindings x → (i : ℕ) × (z : Known T) × (get_elem? views i ≡ some z) × Has z.bindings x
+    was_bound k u x e h = ⊎_elim
+        (λ (t : (k ≡ other) × (numbers.none ≡ u)). absurd (subst (λ (z : Known T). Has z.bindings x) (sym t.1) h))
         (λ (t : (k ≡ other → ⊥) × (get_elem? (set views id (both v w)) k ≡ some u)). ⊎_elim
-        (λ (r : (k ≡ id) × (both v w ≡ u)). ⊎_elim (λ a. (id, v, at, a)) (λ b. (other, w, was, b)) (has_either v.notes w.notes x (subst (λ (z : Known T). Has z.notes x) (sym r.1) h)))
+        (λ (r : (k ≡ id) × (both v w ≡ u)). ⊎_elim (λ a. (id, v, at, a)) (λ b. (other, w, was, b)) (has_either v.bindings w.bindings x (subst (λ (z : Known T). Has z.bindings x) (sym r.1) h)))
         (λ (r : (k ≡ id → ⊥) × (get_elem? views k ≡ some u)). (k, u, r.1, h))
         (at_set views id k (both v w) u t.1))
         (at_set (set views id (both v w)) other k numbers.none u e)
@@ -150,8 +150,8 @@ module _ {T : Type 0} where
 
     joined : IsKept after
     joined = record {
-      agree = λ i j u z x y p q h g e. let (a, b, c, d) = noted i u x p h in let (a', b', c', d') = noted j z y q g in kept.agree a a' b b' x y c c' d d' e;
-      fresh = λ i j u z y p q h g. let (a, b, c, d) = noted j z y q h in kept.fresh i a u b y (may i y.number u p g) c d g;
+      agree = λ i j u z x y p q h g e. let (a, b, c, d) = was_bound i u x p h in let (a', b', c', d') = was_bound j z y q g in kept.agree a a' b b' x y c c' d d' e;
+      fresh = λ i j u z y p q h g. let (a, b, c, d) = was_bound j z y q h in kept.fresh i a u b y (may i y.number u p g) c d g;
       apart = λ i j n u z ne p q g h. kept.apart i j n u z ne (may i n u p g) (may j n z q h) g h;
     }
 
@@ -171,13 +171,13 @@ module _ {T : Type 0} where
 
   -- ## Two halves
 
-  has_right : (xs ys : List (Note T)) (y : Note T) → Has ys y → Has (xs ++ ys) y
+  has_right : (xs ys : List (Binding T)) (y : Binding T) → Has ys y → Has (xs ++ ys) y
   has_right [] ys y h = h
   has_right (x ∷ xs) ys y h = inr (has_right xs ys y h)
 
   pub met : (v w : Known T) (n m : ℕ) → v ≡ given n (numbers.meant v) → w ≡ given m (numbers.meant w) → n ≡ m
-      → ((x y : Note T) → Has (both v w).notes x → Has (both v w).notes y → x.number ≡ y.number → x.of ≡ y.of) → numbers.meant v ≡ numbers.meant w
-  met v w n m e f s agree = agree (note n (numbers.meant v)) (note m (numbers.meant w))
-      (subst (λ (ns : List (Note T)). Has (ns ++ w.notes) (note n (numbers.meant v))) (sym (ap (λ (z : Known T). z.notes) e)) (inl refl))
-      (has_right v.notes w.notes (note m (numbers.meant w)) (subst (λ (ns : List (Note T)). Has ns (note m (numbers.meant w))) (sym (ap (λ (z : Known T). z.notes) f)) (inl refl)))
+      → ((x y : Binding T) → Has (both v w).bindings x → Has (both v w).bindings y → x.number ≡ y.number → x.of ≡ y.of) → numbers.meant v ≡ numbers.meant w
+  met v w n m e f s agree = agree (binding n (numbers.meant v)) (binding m (numbers.meant w))
+      (subst (λ (ns : List (Binding T)). Has (ns ++ w.bindings) (binding n (numbers.meant v))) (sym (ap (λ (z : Known T). z.bindings) e)) (inl refl))
+      (has_right v.bindings w.bindings (binding m (numbers.meant w)) (subst (λ (ns : List (Binding T)). Has ns (binding m (numbers.meant w))) (sym (ap (λ (z : Known T). z.bindings) f)) (inl refl)))
       s

@@ -1,6 +1,6 @@
 //! Sources of pairs, and halves.
 ghost use Rattle.std.specs.Prelude.{◌≡◌, ◌<◌, ◌+◌, ◌^◌, ◌↔◌, IsTrue, [], min, Some};
-ghost use Rattle.cw_pair.specs.Numbers.{given, gone, meant, note};
+ghost use Rattle.cw_pair.specs.Numbers.{binding, given, gone, meant};
 
 use crate::law::{Board, Gives, Halves, Law, Looks, Meant, Shares};
 use crate::view::Known;
@@ -13,13 +13,13 @@ use std::marker::{Brand, Model, PhantomData};
 pub const NUMBERS: u64 = 1 << 40;
 
 /// Names a table. Each run picks its own.
-pub trait Naming: Send + Sync {
+pub trait TableName: Send + Sync {
     ghost use Rattle.atomic_table.specs.Seated.{TableId};
 
     ghost table: { TableId };
 }
 
-impl Naming for Brand {
+impl TableName for Brand {
     ghost use Rattle.cw_pair.specs.Numbers.{no_table};
 
     ghost table = { no_table };
@@ -45,7 +45,7 @@ impl<T> Model for Opened<T> {
 
 /// What all halves and sources of a run share.
 #[derive(Drop)]
-pub struct Pairs<T, N: Naming> {
+pub struct Pairs<T, N: TableName> {
     table: Board<T>,
     of: PhantomData<N>,
     ghost named: { table.shared.table_id ≡ N.table },
@@ -54,14 +54,14 @@ pub struct Pairs<T, N: Naming> {
 
 /// A source of numbers for new pairs. Contracts see which numbers it may still give.
 #[derive(Drop)]
-pub struct Source<T, N: Naming> {
+pub struct Source<T, N: TableName> {
     next: u64,
     end: u64,
     seat: Seat<(), Known<T>>,
     of: PhantomData<N>,
 }
 
-impl<T, N: Naming> Model for Source<T, N> {
+impl<T, N: TableName> Model for Source<T, N> {
     ghost use Rattle.std.specs.Prelude.{◌≡◌, ◌≤◌, []};
     ghost use Rattle.cw_pair.specs.Numbers.{Numbers};
 
@@ -74,20 +74,20 @@ impl<T, N: Naming> Model for Source<T, N> {
 
 /// One half of a pair. Contracts see its number and what that stands for.
 #[derive(Drop)]
-pub struct Half<T, N: Naming> {
+pub struct Half<T, N: TableName> {
     number: u64,
     seat: Seat<(), Known<T>>,
     of: PhantomData<N>,
 }
 
-impl<T, N: Naming> Model for Half<T, N> {
+impl<T, N: TableName> Model for Half<T, N> {
     ghost use Rattle.std.specs.Prelude.{◌≡◌, []};
-    ghost use Rattle.cw_pair.specs.Numbers.{given, meant, note};
-    ghost use Rattle.cw_pair.specs.declared.view.Note.{Note};
+    ghost use Rattle.cw_pair.specs.Numbers.{binding, given, meant};
+    ghost use Rattle.cw_pair.specs.declared.view.Binding.{Binding};
 
-    ghost Value = { Note T };
+    ghost Value = { Binding T };
 
-    ghost view = { λ h. note h.number (meant h.seat.me.0) };
+    ghost view = { λ h. binding h.number (meant h.seat.me.0) };
 
     ghost invariant = { λ h. (h.seat.table_id ≡ N.table) × (h.seat.me.1 ≡ []) × (h.seat.me.0 ≡ given h.number (meant h.seat.me.0)) };
 }
@@ -115,7 +115,7 @@ impl<T> Opened<T> {
     }
 
     /// Names the table `N`, and returns it with the source of all numbers.
-    pub fn named<N: Naming>(self) -> (Pairs<T, N>, Source<T, N>)
+    pub fn named<N: TableName>(self) -> (Pairs<T, N>, Source<T, N>)
         requires { self ≡ N.table }
         ensures { result.1 ≡ record { next = 0; end = 2 ^ 63 } }
     {
@@ -134,7 +134,7 @@ impl<T> Opened<T> {
     }
 }
 
-impl<T, N: Naming> Source<T, N> {
+impl<T, N: TableName> Source<T, N> {
     /// Splits this source: it keeps at most the next `NUMBERS` numbers, and the new source gets the rest.
     pub fn share(&mut self, pairs: &Pairs<T, N>) -> Source<T, N>
         ensures { let middle = min self.old.end (self.old.next + 2 ^ 40) in
@@ -170,7 +170,7 @@ impl<T, N: Naming> Source<T, N> {
     /// Returns the two halves of a new pair, both of which stand for `of`.
     pub fn pair(&mut self, pairs: &Pairs<T, N>, of: &T) -> (Half<T, N>, Half<T, N>)
         requires { self.old.next < self.old.end }
-        ensures halves { let half = note self.old.next (Some of.now) in (result.0 ≡ half) × (result.1 ≡ half) }
+        ensures halves { let half = binding self.old.next (Some of.now) in (result.0 ≡ half) × (result.1 ≡ half) }
         ensures rest { self.new ≡ record self.old { next = self.old.next + 1 } }
     {
         let number = self.next;
@@ -182,10 +182,10 @@ impl<T, N: Naming> Source<T, N> {
     }
 }
 
-fn half_of<T, N: Naming>(number: u64, seat: Seat<(), Known<T>>) -> Half<T, N>
+fn half_of<T, N: TableName>(number: u64, seat: Seat<(), Known<T>>) -> Half<T, N>
     requires table { (seat.table_id ≡ N.table) × (seat.me.1 ≡ []) }
     requires one { seat.me.0 ≡ given number (meant seat.me.0) }
-    ensures { result ≡ note number (meant seat.me.0) }
+    ensures { result ≡ binding number (meant seat.me.0) }
 {
     Half {
         number,
@@ -194,7 +194,7 @@ fn half_of<T, N: Naming>(number: u64, seat: Seat<(), Known<T>>) -> Half<T, N>
     }
 }
 
-impl<T, N: Naming> Half<T, N> {
+impl<T, N: TableName> Half<T, N> {
     pub fn number(&self) -> u64
         ensures { result ≡ self.now.number }
     {
@@ -202,7 +202,7 @@ impl<T, N: Naming> Half<T, N> {
     }
 }
 
-impl<T, N: Naming> Pairs<T, N> {
+impl<T, N: TableName> Pairs<T, N> {
     /// Consumes two halves of one number: both stood for the same value.
     pub fn meet(&self, mine: Half<T, N>, other: Half<T, N>)
         requires { mine.number ≡ other.number }

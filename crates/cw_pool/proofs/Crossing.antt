@@ -14,12 +14,12 @@ use Rattle.cw_deck.proofs.deck.Thief.TheSendSync as thief
 use Rattle.cw_pair.proofs.pairs.Half.TheSendSync as half
 use Rattle.cw_pair.proofs.pairs.Pairs.TheSendSync as pairs
 use Rattle.cw_pair.proofs.pairs.Source.TheSendSync as source
-use Rattle.cw_pair.specs.declared.pairs.Naming as Pairing
+use Rattle.cw_pair.specs.declared.pairs.TableName as TableName
 use Rattle.cw_body.specs.contracts.begin.Begin as Begin
 use Rattle.cw_body.specs.contracts.body.Body as Body
 use Rattle.cw_body.specs.contracts.body.Body.TheInside as InBody
 use Rattle.cw_log.specs.declared.board.SharedBoard as SharedBoard
-use Rattle.cw_pool.specs.declared.naming.Naming as Naming
+use Rattle.cw_pool.specs.declared.naming.RunName as RunName
 use Rattle.cw_pool.specs.contracts.task.Below as Below
 use Rattle.cw_pool.specs.contracts.task.Base as Base
 use Rattle.cw_pool.specs.contracts.task.Running as Running
@@ -49,7 +49,7 @@ body_send = let a = body_row_send in search sendable depth 20
 
 -- ## Parts of a task
 
-module _ (B J T : RattleType) (b : SharedBoard.Ghosts B.Denot T.Denot) (j : Naming.Ghosts J.Denot) (p : Pairing.Ghosts J.Denot) (token : IsSend T) where
+module _ (B J T : RattleType) (b : SharedBoard.Ghosts B.Denot T.Denot) (j : RunName.Ghosts J.Denot) (p : TableName.Ghosts J.Denot) (token : IsSend T) where
   below_send : IsSend (Below.the_field T J p).row
   below_send = let c = body_send in search (crosses, sendable, half.the_send) depth 20
 

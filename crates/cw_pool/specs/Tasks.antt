@@ -9,7 +9,7 @@ use Rattle.cw_job.specs.Jobs.{Job, TakesWords}
 use Rattle.cw_job.specs.Room.Strands.{StrandState, strands_of_job}
 use Rattle.cw_tree.specs.declared.conflict.Conflict.{Conflict}
 use Rattle.cw_tree.specs.declared.closed.Halt.TheVariants.{Fault}
-use Rattle.cw_pair.specs.declared.view.Note.{Note}
+use Rattle.cw_pair.specs.declared.view.Binding.{Binding}
 use Rattle.cw_log.specs.declared.log.Log.{Log}
 use Rattle.cw_log.specs.declared.token.Stop.{Stop}
 use Rattle.cw_log.specs.declared.token.Open.{Open}
@@ -197,7 +197,7 @@ module _ {T : Type 0} (job : Job) (of : T → Token) where
       }
 
   -- the half of a fork whose right strand's log begins with `a`
-  abbrev pub IsHalf : Note (Memo T) → Start → Type 0
+  abbrev pub IsHalf : Binding (Memo T) → Start → Type 0
   IsHalf half a = (m : Memo T) × (half.of ≡ Some m) × (told_by m ≡ a)
 
   -- A left strand that came to its end and whose right one was taken back: its token and its body.
@@ -226,7 +226,7 @@ module _ {T J : Type 0} (job : Job) (of : T → Token) where
     bottom : AreWaitingBelow lowest lowest opens [] []
     block : {a : Start} {t : Trail StrandState} {os : List Open} {bs : List (Below T J)} {cs : Course} {b : StrandState} {stamp : ℕ}
         → AreWaitingBelow lowest a t os bs → AreWaitingBelow lowest a (in_block t cs b stamp) os bs
-    left : {a : Start} {t : Trail StrandState} {os : List Open} {bs : List (Below T J)} {cs : Course} {b : StrandState} {column stamp fork : ℕ} {half : Note (Memo T)}
+    left : {a : Start} {t : Trail StrandState} {os : List Open} {bs : List (Below T J)} {cs : Course} {b : StrandState} {column stamp fork : ℕ} {half : Binding (Memo T)}
         → IsHalf job of half (beside (strands_of_job job) a t cs b column fork) → AreWaitingBelow lowest a t os bs
         → AreWaitingBelow lowest a (in_left t cs b (Some column) stamp) (opened (Beside fork) a t ∷ os) (below.Left fork half ∷ bs)
     first : {a : Start} {t : Trail StrandState} {os : List Open} {bs : List (Below T J)} {cs : Course} {b : StrandState} {stamp : ℕ} {right : InBlocks}

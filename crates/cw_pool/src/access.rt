@@ -6,7 +6,7 @@ ghost use Rattle.cw_tree.specs.declared.closed.Halt.TheVariants as halt;
 ghost use Rattle.cw_body.specs.declared.stage.Stage.TheVariants as stage;
 
 use crate::moves::halt_out_of_memory;
-use crate::{Mode, Naming, Running, Scene};
+use crate::{Mode, RunName, Running, Scene};
 use cw_body::Body;
 use cw_log::{Access, SharedBoard};
 use cw_strand::{Given, Want};
@@ -25,7 +25,7 @@ fn access_of(want: Want) -> Option<(u32, Option<i64>)>
 }
 
 /// Returns the mode of a strand after `conflict`, which is in its token's log.
-fn mode_after_conflict<B: SharedBoard, J: Naming>(
+fn mode_after_conflict<B: SharedBoard, J: RunName>(
     scene: &Scene<'_, B, J>,
     token: &mut B::Token,
     body: &mut Body,
@@ -50,7 +50,7 @@ fn mode_after_conflict<B: SharedBoard, J: Naming>(
 }
 
 /// Reads or writes a cell for the strand, or has the access refused.
-pub(crate) fn access_cell<B: SharedBoard, J: Naming, R: Wait>(
+pub(crate) fn access_cell<B: SharedBoard, J: RunName, R: Wait>(
     rt: &R,
     scene: &Scene<'_, B, J>,
     now: &mut Running<B, J>,

@@ -3,14 +3,14 @@ ghost use Rattle.std.specs.Prelude.{◌≡◌};
 ghost use Rattle.cw_pool.specs.Blocks.{begin_at};
 
 use crate::moves::halt_out_of_memory;
-use crate::{Mode, Naming, Running, Scene};
+use crate::{Mode, RunName, Running, Scene};
 use cw_log::SharedBoard;
 use cw_strand::Want;
 use cw_tree::{Halt, Kind, Node};
 use std::sync::Wait;
 
 /// Begins a block for the strand.
-pub(crate) fn begin_block<B: SharedBoard, J: Naming>(
+pub(crate) fn begin_block<B: SharedBoard, J: RunName>(
     scene: &Scene<'_, B, J>,
     now: &mut Running<B, J>,
 ) {
@@ -37,7 +37,7 @@ pub(crate) fn begin_block<B: SharedBoard, J: Naming>(
 }
 
 /// Ends the strand's innermost block.
-pub(crate) fn end_block<B: SharedBoard, J: Naming>(
+pub(crate) fn end_block<B: SharedBoard, J: RunName>(
     scene: &Scene<'_, B, J>,
     now: &mut Running<B, J>,
 ) {
@@ -72,7 +72,7 @@ pub(crate) fn begin_at(nodes: &[Node], place: u32) -> Option<u64>
 
 /// Rolls back the innermost block of a strand that goes back. If that is the block to which it goes, the strand then stands at its
 /// begin.
-pub(crate) fn roll_block<B: SharedBoard, J: Naming, R: Wait>(
+pub(crate) fn roll_block<B: SharedBoard, J: RunName, R: Wait>(
     rt: &R,
     scene: &Scene<'_, B, J>,
     now: &mut Running<B, J>,

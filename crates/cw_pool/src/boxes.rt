@@ -3,7 +3,7 @@
 ghost use Rattle.std.specs.Prelude.{◌<◌, OnOk};
 ghost use Rattle.std.specs.Vec.{vec_len, vec_capacity};
 
-use crate::{Naming, Running};
+use crate::{RunName, Running};
 use cw_base::OutOfMemory;
 use cw_deck::{Deck, Thief};
 use cw_log::SharedBoard;
@@ -15,7 +15,7 @@ const SPARE: usize = 64;
 
 /// Room for a task.
 #[derive(Drop)]
-pub(crate) struct Room<B: SharedBoard, J: Naming> {
+pub(crate) struct Room<B: SharedBoard, J: RunName> {
     task: Option<Running<B, J>>,
 }
 
@@ -23,19 +23,19 @@ pub(crate) type TaskBox<B, J> = Box<Room<B, J>>;
 
 /// A task that a worker runs, and the box in which it came.
 #[derive(Drop)]
-pub(crate) struct Task<B: SharedBoard, J: Naming> {
+pub(crate) struct Task<B: SharedBoard, J: RunName> {
     pub(crate) home: TaskBox<B, J>,
     pub(crate) now: Running<B, J>,
 }
 
-pub(crate) fn empty_box<B: SharedBoard, J: Naming>(
+pub(crate) fn empty_box<B: SharedBoard, J: RunName>(
     alloc: Global,
 ) -> Result<TaskBox<B, J>, OutOfMemory> {
     Ok(Box::new(alloc, Room { task: None })?)
 }
 
 /// Takes the task out of its box.
-pub(crate) fn take_up<B: SharedBoard, J: Naming>(full: TaskBox<B, J>) -> Option<Task<B, J>> {
+pub(crate) fn take_up<B: SharedBoard, J: RunName>(full: TaskBox<B, J>) -> Option<Task<B, J>> {
     let mut home = full;
     let room: &mut Room<B, J> = &mut home;
     let held = room.task.take();
@@ -50,7 +50,7 @@ pub(crate) fn take_up<B: SharedBoard, J: Naming>(full: TaskBox<B, J>) -> Option<
 }
 
 /// Packs a task into its box.
-pub(crate) fn pack<B: SharedBoard, J: Naming>(task: Task<B, J>) -> TaskBox<B, J> {
+pub(crate) fn pack<B: SharedBoard, J: RunName>(task: Task<B, J>) -> TaskBox<B, J> {
     let Task { mut home, now } = task;
     let room: &mut Room<B, J> = &mut home;
     drop(mem::replace(&mut room.task, Some(now)));
@@ -60,13 +60,13 @@ pub(crate) fn pack<B: SharedBoard, J: Naming>(task: Task<B, J>) -> TaskBox<B, J>
 /// The boxes of a worker: `deck` holds its own end of its deque, `kept` the tasks that the deque could not take, newest last, and
 /// `spare` empty boxes.
 #[derive(Drop)]
-pub(crate) struct Boxes<B: SharedBoard, J: Naming> {
+pub(crate) struct Boxes<B: SharedBoard, J: RunName> {
     deck: Deck<TaskBox<B, J>>,
     kept: Vec<TaskBox<B, J>>,
     spare: Vec<TaskBox<B, J>>,
 }
 
-impl<B: SharedBoard, J: Naming> Boxes<B, J> {
+impl<B: SharedBoard, J: RunName> Boxes<B, J> {
     pub(crate) fn new(alloc: Global) -> Result<Boxes<B, J>, OutOfMemory> {
         Ok(Boxes {
             deck: Deck::new(alloc)?,

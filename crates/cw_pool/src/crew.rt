@@ -3,7 +3,7 @@ ghost use Rattle.std.specs.Thread.{IsSend, IsSync};
 
 use crate::boxes::{Boxes, Task, TaskBox};
 use crate::worker::{Common, Worker};
-use crate::{Memo, Naming};
+use crate::{Memo, RunName};
 use crossbeam_utils::CachePadded;
 use cw_base::OutOfMemory;
 use cw_deck::Thief;
@@ -18,7 +18,7 @@ use std::{mem, thread};
 pub(crate) type Crew<B, J> = Vec<Worker<B, J>>;
 
 /// Makes `workers` workers, each with pair numbers of its own for its forks. They cannot steal yet.
-fn new_workers<B: SharedBoard, J: Naming>(
+fn new_workers<B: SharedBoard, J: RunName>(
     alloc: Global,
     workers: u32,
     pairs: &Pairs<Memo<B::Token>, J>,
@@ -39,7 +39,7 @@ fn new_workers<B: SharedBoard, J: Naming>(
     Ok(crew)
 }
 
-fn thief_of<B: SharedBoard, J: Naming>(
+fn thief_of<B: SharedBoard, J: RunName>(
     worker: &mut Worker<B, J>,
 ) -> Result<Thief<TaskBox<B, J>>, OutOfMemory> {
     let boxes: &mut Boxes<B, J> = &mut worker.boxes;
@@ -47,7 +47,7 @@ fn thief_of<B: SharedBoard, J: Naming>(
 }
 
 /// Gives each worker a thief of every other one, the next worker's first.
-fn connect<B: SharedBoard, J: Naming>(crew: &mut [Worker<B, J>]) -> Result<(), OutOfMemory> {
+fn connect<B: SharedBoard, J: RunName>(crew: &mut [Worker<B, J>]) -> Result<(), OutOfMemory> {
     let count = crew.len();
     for mine in 0..count {
         for step in 1..count {
@@ -60,7 +60,7 @@ fn connect<B: SharedBoard, J: Naming>(crew: &mut [Worker<B, J>]) -> Result<(), O
 }
 
 /// Makes `workers` workers, each of which may steal from all others.
-pub(crate) fn make_workers<B: SharedBoard, J: Naming>(
+pub(crate) fn make_workers<B: SharedBoard, J: RunName>(
     alloc: Global,
     workers: u32,
     pairs: &Pairs<Memo<B::Token>, J>,
@@ -72,7 +72,7 @@ pub(crate) fn make_workers<B: SharedBoard, J: Naming>(
 }
 
 /// Runs one worker until the run is over, and lets it go.
-fn run_worker<B: SharedBoard, J: Naming, G: Gate, R: Threads + Wait + Sync>(
+fn run_worker<B: SharedBoard, J: RunName, G: Gate, R: Threads + Wait + Sync>(
     rt: &R,
     common: &Common<'_, B, J, G>,
     worker: Worker<B, J>,
@@ -85,7 +85,7 @@ fn run_worker<B: SharedBoard, J: Naming, G: Gate, R: Threads + Wait + Sync>(
 
 /// Runs all workers until the run is over, the first one on the caller's thread. A worker whose thread could not be started is
 /// missing.
-pub(crate) fn run_workers<B: SharedBoard, J: Naming, G: Gate, R: Threads + Wait + Sync>(
+pub(crate) fn run_workers<B: SharedBoard, J: RunName, G: Gate, R: Threads + Wait + Sync>(
     rt: &R,
     common: &Common<'_, B, J, G>,
     crew: Crew<B, J>,

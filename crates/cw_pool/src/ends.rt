@@ -8,7 +8,7 @@ ghost use Rattle.cw_pool.specs.declared.task.Below.TheVariants as entry;
 use crate::blocks::begin_at;
 use crate::last::finish_run;
 use crate::sides::task_of;
-use crate::{Base, Below, Ended, Mode, Naming, Running, Scene};
+use crate::{Base, Below, Ended, Mode, RunName, Running, Scene};
 use cw_body::Body;
 use cw_log::SharedBoard;
 use cw_strand::Want;
@@ -16,7 +16,7 @@ use cw_tree::Halt;
 
 /// What follows a strand that is over: it came to its end, died or was stopped.
 #[derive(Drop)]
-pub(crate) enum After<B: SharedBoard, J: Naming> {
+pub(crate) enum After<B: SharedBoard, J: RunName> {
     /// Another strand of the same task goes on.
     Goes(Running<B, J>),
     /// A left strand ended. The caller must now find the right one: it waits in this worker's deque, or was stolen.
@@ -28,7 +28,7 @@ pub(crate) enum After<B: SharedBoard, J: Naming> {
 }
 
 /// Whether a strand is over: it came to its end, died or was stopped.
-pub(crate) fn may_end<B: SharedBoard, J: Naming>(
+pub(crate) fn may_end<B: SharedBoard, J: RunName>(
     scene: &Scene<'_, B, J>,
     token: &B::Token,
     body: &Body,
@@ -47,7 +47,7 @@ pub(crate) fn may_end<B: SharedBoard, J: Naming>(
 }
 
 /// Makes the task of the strand that forked, behind both its strands. The right strand's body becomes its own.
-pub(crate) fn rejoin<B: SharedBoard, J: Naming>(
+pub(crate) fn rejoin<B: SharedBoard, J: RunName>(
     scene: &Scene<'_, B, J>,
     token: B::Token,
     right: Body,
@@ -83,7 +83,7 @@ pub(crate) fn rejoin<B: SharedBoard, J: Naming>(
 
 /// After the left strand of an inline fork: goes on with the right one or, if the left one died or was stopped, with the strand
 /// that forked.
-fn turn_to_right<B: SharedBoard, J: Naming>(
+fn turn_to_right<B: SharedBoard, J: RunName>(
     scene: &Scene<'_, B, J>,
     token: B::Token,
     body: Body,
@@ -108,7 +108,7 @@ fn turn_to_right<B: SharedBoard, J: Naming>(
 }
 
 /// After the right strand of an inline fork: goes on with the strand that forked.
-fn finish_second<B: SharedBoard, J: Naming>(
+fn finish_second<B: SharedBoard, J: RunName>(
     scene: &Scene<'_, B, J>,
     token: B::Token,
     body: Body,
@@ -126,7 +126,7 @@ fn finish_second<B: SharedBoard, J: Naming>(
 }
 
 /// After the right strand of a fork that was taken back: goes on with the strand that forked.
-fn finish_taken<B: SharedBoard, J: Naming>(
+fn finish_taken<B: SharedBoard, J: RunName>(
     scene: &Scene<'_, B, J>,
     token: B::Token,
     body: Body,
@@ -144,7 +144,7 @@ fn finish_taken<B: SharedBoard, J: Naming>(
 }
 
 /// After the lowest strand of a task.
-fn finish_lowest<B: SharedBoard, J: Naming>(
+fn finish_lowest<B: SharedBoard, J: RunName>(
     token: B::Token,
     body: Body,
     mode: Mode,
@@ -165,7 +165,7 @@ fn finish_lowest<B: SharedBoard, J: Naming>(
 }
 
 /// Returns what follows a strand that is over. A strand that may not end yet is given back unchanged.
-pub(crate) fn finish<B: SharedBoard, J: Naming>(
+pub(crate) fn finish<B: SharedBoard, J: RunName>(
     scene: &Scene<'_, B, J>,
     now: Running<B, J>,
 ) -> Result<After<B, J>, Running<B, J>> {

@@ -4,7 +4,7 @@ ghost use Rattle.std.specs.Vec.{vec_len, vec_capacity};
 ghost use Rattle.cw_pool.specs.Forks.{AreForkTokens, IsForking};
 
 use crate::moves::halt_out_of_memory;
-use crate::{Base, Below, Memo, Mode, Naming, Running, Scene};
+use crate::{Base, Below, Memo, Mode, RunName, Running, Scene};
 use cw_body::Body;
 use cw_log::{Forked, SharedBoard};
 use cw_pair::Source;
@@ -15,7 +15,7 @@ use std::snapshot::Snapshot;
 use std::sync::Wait;
 
 /// Forks a strand, and goes on with its left strand. If the right strand has a token of its own, its task is returned second.
-pub(crate) fn fork<B: SharedBoard, J: Naming, R: Wait>(
+pub(crate) fn fork<B: SharedBoard, J: RunName, R: Wait>(
     rt: &R,
     scene: &Scene<'_, B, J>,
     source: &mut Source<Memo<B::Token>, J>,
@@ -53,7 +53,7 @@ pub(crate) fn fork<B: SharedBoard, J: Naming, R: Wait>(
 }
 
 /// Forks on the board a strand whose body has forked.
-fn fork_token<B: SharedBoard, J: Naming, R: Wait>(
+fn fork_token<B: SharedBoard, J: RunName, R: Wait>(
     rt: &R,
     scene: &Scene<'_, B, J>,
     source: &mut Source<Memo<B::Token>, J>,
@@ -110,7 +110,7 @@ fn fork_token<B: SharedBoard, J: Naming, R: Wait>(
 
 /// Makes the tasks of both strands of a fork with two tokens, each with its half of the pair: the left one goes on, the right one
 /// waits.
-fn set_apart<B: SharedBoard, J: Naming>(
+fn set_apart<B: SharedBoard, J: RunName>(
     scene: &Scene<'_, B, J>,
     source: &mut Source<Memo<B::Token>, J>,
     fork: u32,

@@ -1,5 +1,5 @@
 //! Where the two strands of a stolen fork meet.
-use crate::Naming;
+use crate::RunName;
 use crate::boxes::{Task, TaskBox, pack};
 use cw_base::OutOfMemory;
 use cw_log::SharedBoard;
@@ -14,17 +14,17 @@ const ROW: u64 = 1024;
 pub(crate) type Frame<B, J> = Mutex<Option<TaskBox<B, J>>>;
 
 #[derive(Drop)]
-struct Row<B: SharedBoard, J: Naming> {
+struct Row<B: SharedBoard, J: RunName> {
     frames: Vec<Frame<B, J>>,
 }
 
 /// The frames of a worker's forks, by their count. They are made a row at a time, before the worker forks into them.
 #[derive(Drop)]
-pub(crate) struct Frames<B: SharedBoard, J: Naming> {
+pub(crate) struct Frames<B: SharedBoard, J: RunName> {
     rows: Vec<OnceLock<Row<B, J>>>,
 }
 
-fn fresh_row<B: SharedBoard, J: Naming>(alloc: Global) -> Result<Row<B, J>, OutOfMemory> {
+fn fresh_row<B: SharedBoard, J: RunName>(alloc: Global) -> Result<Row<B, J>, OutOfMemory> {
     let mut frames = Vec::new(alloc);
     frames.reserve(ROW as usize)?;
     for _ in 0..ROW {
@@ -33,7 +33,7 @@ fn fresh_row<B: SharedBoard, J: Naming>(alloc: Global) -> Result<Row<B, J>, OutO
     Ok(Row { frames })
 }
 
-impl<B: SharedBoard, J: Naming> Frames<B, J> {
+impl<B: SharedBoard, J: RunName> Frames<B, J> {
     /// Makes the list for `forks` forks. No frame is made yet.
     pub(crate) fn new(alloc: Global, forks: u32) -> Result<Frames<B, J>, OutOfMemory> {
         let mut rows = Vec::new(alloc);
@@ -69,7 +69,7 @@ impl<B: SharedBoard, J: Naming> Frames<B, J> {
 }
 
 /// Returns `mine` and the task that lies in the frame. If none lies there, leaves `mine` there.
-pub(crate) fn meet<B: SharedBoard, J: Naming, R: Wait>(
+pub(crate) fn meet<B: SharedBoard, J: RunName, R: Wait>(
     rt: &R,
     frame: &Frame<B, J>,
     mine: Task<B, J>,

@@ -4,7 +4,7 @@ ghost use Rattle.cw_pool.specs.Ends.{IsMerged, IsToMerge, mode_of_both};
 
 use crate::ends::{may_end, rejoin};
 use crate::sides::{LeftTask, RightTask, take_apart, task_of};
-use crate::{Below, Mode, Naming, Running, Scene};
+use crate::{Below, Mode, RunName, Running, Scene};
 use cw_log::SharedBoard;
 use std::sync::Wait;
 
@@ -24,7 +24,7 @@ fn joint_mode(left: Mode, right: Mode) -> Mode
 }
 
 /// Merges what the split of a fork parted, unless a strand was stopped.
-fn merge_unless_stopped<B: SharedBoard, J: Naming, R: Wait>(
+fn merge_unless_stopped<B: SharedBoard, J: RunName, R: Wait>(
     rt: &R,
     scene: &Scene<'_, B, J>,
     token: B::Token,
@@ -46,7 +46,7 @@ fn merge_unless_stopped<B: SharedBoard, J: Naming, R: Wait>(
 
 /// Lets a right strand that no worker stole go on after its left one; if the left one died or was stopped, joins both. Gives both
 /// back if they are not of one fork, or the right one does not wait, or the left one is not over.
-pub(crate) fn take_back_task<B: SharedBoard, J: Naming>(
+pub(crate) fn take_back_task<B: SharedBoard, J: RunName>(
     scene: &Scene<'_, B, J>,
     left: Running<B, J>,
     right: Running<B, J>,
@@ -87,7 +87,7 @@ pub(crate) fn take_back_task<B: SharedBoard, J: Naming>(
 
 /// Joins the two strands of a fork, each of which ended in a task of its own. Returns the task of the strand that forked. Gives
 /// both back if they are not of one fork, or have not ended.
-pub(crate) fn join_stolen<B: SharedBoard, J: Naming, R: Wait>(
+pub(crate) fn join_stolen<B: SharedBoard, J: RunName, R: Wait>(
     rt: &R,
     scene: &Scene<'_, B, J>,
     left: Running<B, J>,

@@ -5,21 +5,21 @@ ghost use Rattle.cw_pool.specs.Tasks.{IsRunning};
 ghost use Rattle.cw_pool.specs.declared.task.Base.TheVariants as bottom;
 ghost use Rattle.cw_pool.specs.declared.task.Mode.TheVariants as how;
 
-use crate::{Base, Below, Mode, Naming};
+use crate::{Base, Below, Mode, RunName};
 use cw_body::Body;
 use cw_log::SharedBoard;
 use std::marker::{Model, PhantomData};
 
 /// The root's token, to which all others were joined.
 #[derive(Drop)]
-pub struct Ended<B: SharedBoard, J: Naming> {
+pub struct Ended<B: SharedBoard, J: RunName> {
     pub(crate) token: B::Token,
     /// Whether main came to its end.
     pub(crate) is_whole: bool,
     pub(crate) of: PhantomData<J>,
 }
 
-impl<B: SharedBoard, J: Naming> Model for Ended<B, J> {
+impl<B: SharedBoard, J: RunName> Model for Ended<B, J> {
     ghost use Rattle.std.specs.Prelude.{◌≡◌, ℕ, IsTrue, false};
     ghost use Rattle.cw_pool.specs.Ends.{IsWorked};
 
@@ -40,7 +40,7 @@ fn is_going(mode: Mode) -> bool
 }
 
 /// Ends the run after the strand of main.
-pub(crate) fn finish_run<B: SharedBoard, J: Naming>(
+pub(crate) fn finish_run<B: SharedBoard, J: RunName>(
     token: B::Token,
     body: Body,
     mode: Mode,

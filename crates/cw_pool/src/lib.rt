@@ -29,7 +29,7 @@ mod worker;
 mod works;
 
 pub use last::Ended;
-pub use naming::Naming;
+pub use naming::RunName;
 pub use recording::run;
 pub use scene::Scene;
 pub use task::{Base, Below, Memo, Mode, Running};

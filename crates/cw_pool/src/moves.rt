@@ -1,11 +1,11 @@
 //! What a strand does by itself.
-use crate::{Mode, Naming, Running, Scene};
+use crate::{Mode, RunName, Running, Scene};
 use cw_log::SharedBoard;
 use cw_strand::{Given, Want};
 use cw_tree::Halt;
 
 /// Stops the strand if the run has been halted.
-pub(crate) fn check_stop<B: SharedBoard, J: Naming>(
+pub(crate) fn check_stop<B: SharedBoard, J: RunName>(
     scene: &Scene<'_, B, J>,
     now: &mut Running<B, J>,
 ) {
@@ -18,7 +18,7 @@ pub(crate) fn check_stop<B: SharedBoard, J: Naming>(
 }
 
 /// Stops a strand that ran out of memory.
-pub(crate) fn halt_out_of_memory<B: SharedBoard, J: Naming>(
+pub(crate) fn halt_out_of_memory<B: SharedBoard, J: RunName>(
     scene: &Scene<'_, B, J>,
     now: &mut Running<B, J>,
 ) {
@@ -30,7 +30,10 @@ pub(crate) fn halt_out_of_memory<B: SharedBoard, J: Naming>(
 }
 
 /// Outputs a value for the strand.
-pub(crate) fn put_out<B: SharedBoard, J: Naming>(scene: &Scene<'_, B, J>, now: &mut Running<B, J>) {
+pub(crate) fn put_out<B: SharedBoard, J: RunName>(
+    scene: &Scene<'_, B, J>,
+    now: &mut Running<B, J>,
+) {
     let Mode::Goes = now.mode else {
         return;
     };
@@ -50,7 +53,7 @@ pub(crate) fn put_out<B: SharedBoard, J: Naming>(scene: &Scene<'_, B, J>, now: &
 }
 
 /// Stops a strand that stands at a fault.
-pub(crate) fn stop_at_fault<B: SharedBoard, J: Naming>(
+pub(crate) fn stop_at_fault<B: SharedBoard, J: RunName>(
     scene: &Scene<'_, B, J>,
     now: &mut Running<B, J>,
 ) {

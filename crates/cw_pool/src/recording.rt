@@ -20,7 +20,7 @@ ghost use Rattle.cw_pool.specs.Recorded.{IsOfBoard, IsOfOneWorker};
 
 use crate::works::work_whole;
 use cw_base::{OutOfMemory, Seq};
-use cw_board::{Board, Naming};
+use cw_board::{Board, BoardName};
 use cw_code::{Limits, Program};
 use cw_io::Gate;
 use cw_job::first_memory;
@@ -74,7 +74,7 @@ fn record_of(
 }
 
 /// Runs a program on a board, once the board has a name.
-fn run_named<N: Naming, G: Gate, R: Threads + Wait + Sync>(
+fn run_named<N: BoardName, G: Gate, R: Threads + Wait + Sync>(
     rt: &R,
     alloc: Global,
     board: Board,

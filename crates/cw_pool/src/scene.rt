@@ -1,7 +1,7 @@
 ghost use Rattle.std.specs.Prelude.{◌≡◌, length};
 ghost use Rattle.cw_strand.specs.Names.{first_memory};
 
-use crate::{Memo, Naming};
+use crate::{Memo, RunName};
 use cw_code::Program;
 use cw_log::SharedBoard;
 use cw_pair::Pairs;
@@ -10,7 +10,7 @@ use std::marker::PhantomData;
 
 /// What all strands of a run share: the board and the program.
 #[derive(Drop)]
-pub struct Scene<'a, B: SharedBoard, J: Naming> {
+pub struct Scene<'a, B: SharedBoard, J: RunName> {
     pub alloc: Global,
     pub board: &'a B,
     pub program: &'a Program,

@@ -2,7 +2,7 @@
 ghost use Rattle.cw_pool.specs.Tasks.{IsRunning};
 
 use crate::ends::may_end;
-use crate::{Base, Below, Memo, Mode, Naming, Running, Scene};
+use crate::{Base, Below, Memo, Mode, RunName, Running, Scene};
 use cw_body::Body;
 use cw_log::SharedBoard;
 use cw_pair::Half;
@@ -10,7 +10,7 @@ use std::marker::{Model, PhantomData};
 
 /// A left strand that is over (ended, died or stopped) and whose right strand is a task of its own.
 #[derive(Drop)]
-pub(crate) struct LeftTask<B: SharedBoard, J: Naming> {
+pub(crate) struct LeftTask<B: SharedBoard, J: RunName> {
     pub(crate) token: B::Token,
     pub(crate) body: Body,
     pub(crate) mode: Mode,
@@ -22,7 +22,7 @@ pub(crate) struct LeftTask<B: SharedBoard, J: Naming> {
     pub(crate) of: PhantomData<J>,
 }
 
-impl<B: SharedBoard, J: Naming> Model for LeftTask<B, J> {
+impl<B: SharedBoard, J: RunName> Model for LeftTask<B, J> {
     ghost use Rattle.std.specs.Prelude.{ℕ, ◌<◌, ◌++◌, ◌∷◌, []};
     ghost use Rattle.std.specs.Vec.{vec_len, vec_capacity};
     ghost use Rattle.cw_pool.specs.Ends.{MayEnd};
@@ -38,7 +38,7 @@ impl<B: SharedBoard, J: Naming> Model for LeftTask<B, J> {
 
 /// A task that began with the right strand of a fork, and in which nothing waits.
 #[derive(Drop)]
-pub(crate) struct RightTask<B: SharedBoard, J: Naming> {
+pub(crate) struct RightTask<B: SharedBoard, J: RunName> {
     pub(crate) token: B::Token,
     pub(crate) body: Body,
     pub(crate) mode: Mode,
@@ -48,7 +48,7 @@ pub(crate) struct RightTask<B: SharedBoard, J: Naming> {
     pub(crate) of: PhantomData<J>,
 }
 
-impl<B: SharedBoard, J: Naming> Model for RightTask<B, J> {
+impl<B: SharedBoard, J: RunName> Model for RightTask<B, J> {
     ghost use Rattle.std.specs.Prelude.{ℕ, ◌≡◌, []};
     ghost use Rattle.cw_pool.specs.Tasks.{IsRunning};
     ghost use Rattle.cw_pool.specs.declared.task.Base.TheVariants as bottom;
@@ -61,7 +61,7 @@ impl<B: SharedBoard, J: Naming> Model for RightTask<B, J> {
 }
 
 /// Makes a task from its parts.
-pub(crate) fn task_of<B: SharedBoard, J: Naming>(
+pub(crate) fn task_of<B: SharedBoard, J: RunName>(
     token: B::Token,
     body: Body,
     mode: Mode,
@@ -81,7 +81,7 @@ pub(crate) fn task_of<B: SharedBoard, J: Naming>(
     now
 }
 
-impl<B: SharedBoard, J: Naming> LeftTask<B, J> {
+impl<B: SharedBoard, J: RunName> LeftTask<B, J> {
     /// Takes a task apart if it is a `LeftTask`. Otherwise gives it back.
     pub(crate) fn of(
         scene: &Scene<'_, B, J>,
@@ -137,7 +137,7 @@ impl<B: SharedBoard, J: Naming> LeftTask<B, J> {
     }
 }
 
-impl<B: SharedBoard, J: Naming> RightTask<B, J> {
+impl<B: SharedBoard, J: RunName> RightTask<B, J> {
     /// Takes a task apart if it is a `RightTask`. Otherwise gives it back.
     pub(crate) fn of(now: Running<B, J>) -> Result<RightTask<B, J>, Running<B, J>> {
         let Running {
@@ -184,7 +184,7 @@ impl<B: SharedBoard, J: Naming> RightTask<B, J> {
 }
 
 /// Takes apart the tasks of the left and the right strand of a fork. If they are none, gives both back.
-pub(crate) fn take_apart<B: SharedBoard, J: Naming>(
+pub(crate) fn take_apart<B: SharedBoard, J: RunName>(
     scene: &Scene<'_, B, J>,
     left: Running<B, J>,
     right: Running<B, J>,
@@ -199,7 +199,7 @@ pub(crate) fn take_apart<B: SharedBoard, J: Naming>(
 }
 
 /// Returns the pair number of the fork whose left strand this is, if the right one is a task.
-pub(crate) fn left_number<B: SharedBoard, J: Naming>(now: &Running<B, J>) -> Option<u64> {
+pub(crate) fn left_number<B: SharedBoard, J: RunName>(now: &Running<B, J>) -> Option<u64> {
     match now.below.last() {
         Some(Below::Left { half, .. }) => Some(half.number()),
         _ => None,
@@ -207,7 +207,7 @@ pub(crate) fn left_number<B: SharedBoard, J: Naming>(now: &Running<B, J>) -> Opt
 }
 
 /// Returns the pair number of the fork as whose right strand the task began.
-pub(crate) fn right_number<B: SharedBoard, J: Naming>(now: &Running<B, J>) -> Option<u64> {
+pub(crate) fn right_number<B: SharedBoard, J: RunName>(now: &Running<B, J>) -> Option<u64> {
     match &now.base {
         Base::Root => None,
         Base::Right { half, .. } => Some(half.number()),

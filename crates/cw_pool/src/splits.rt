@@ -1,11 +1,11 @@
 //! How a stolen right strand begins.
-use crate::{Base, Mode, Naming, Running, Scene};
+use crate::{Base, Mode, RunName, Running, Scene};
 use cw_log::SharedBoard;
 use std::sync::Wait;
 
 /// Splits the fork of a right strand that waits, which then goes on. Returns false if another fork has to be split first; the
 /// strand then waits as before.
-pub(crate) fn try_split<B: SharedBoard, J: Naming, R: Wait>(
+pub(crate) fn try_split<B: SharedBoard, J: RunName, R: Wait>(
     rt: &R,
     scene: &Scene<'_, B, J>,
     now: &mut Running<B, J>,

@@ -1,5 +1,5 @@
 //! What goes from thread to thread: a strand that runs, with all that waits for it.
-use crate::Naming;
+use crate::RunName;
 use cw_body::Body;
 use cw_log::SharedBoard;
 use cw_pair::Half;
@@ -26,7 +26,7 @@ pub enum Mode {
 
 /// What waits for a strand, from a fork on.
 #[derive(Drop)]
-pub enum Below<T, J: cw_pair::Naming> {
+pub enum Below<T, J: cw_pair::TableName> {
     /// The strand is the left one; the right one is a task.
     Left { fork: u32, half: Half<Memo<T>, J> },
     /// The strand is the left one of an inline fork, and `right` is the body of the right one.
@@ -39,7 +39,7 @@ pub enum Below<T, J: cw_pair::Naming> {
 
 /// Where the lowest strand of a task comes from.
 #[derive(Drop)]
-pub enum Base<T, J: cw_pair::Naming> {
+pub enum Base<T, J: cw_pair::TableName> {
     Root,
     /// From the fork with this number, as whose right strand it began.
     Right { fork: u32, half: Half<Memo<T>, J> },
@@ -48,7 +48,7 @@ pub enum Base<T, J: cw_pair::Naming> {
 /// A strand that runs, and what waits for it, newest last. Its invariant is `IsRunning`. A move that is asked for at the wrong time
 /// does nothing.
 #[derive(Drop)]
-pub struct Running<B: SharedBoard, J: Naming> {
+pub struct Running<B: SharedBoard, J: RunName> {
     pub(crate) token: B::Token,
     pub(crate) body: Body,
     pub(crate) mode: Mode,
@@ -57,7 +57,7 @@ pub struct Running<B: SharedBoard, J: Naming> {
     pub(crate) of: PhantomData<J>,
 }
 
-impl<B: SharedBoard, J: Naming> Model for Running<B, J> {
+impl<B: SharedBoard, J: RunName> Model for Running<B, J> {
     ghost use Rattle.std.specs.Prelude.{ℕ};
 
     ghost Value = { ℕ };

@@ -4,7 +4,7 @@ ghost use Rattle.std.specs.Prelude.{◌≡◌};
 use crate::access::access_cell;
 use crate::blocks::{begin_block, end_block, roll_block};
 use crate::moves::{put_out, stop_at_fault};
-use crate::{Mode, Naming, Running, Scene};
+use crate::{Mode, RunName, Running, Scene};
 use cw_io::{Gate, Point};
 use cw_log::SharedBoard;
 use cw_strand::Want;
@@ -32,7 +32,7 @@ fn is_refused(nodes: &[Node]) -> bool {
 }
 
 /// Backs off after a refused access.
-fn pause_if_refused<B: SharedBoard, J: Naming>(scene: &Scene<'_, B, J>, now: &Running<B, J>) {
+fn pause_if_refused<B: SharedBoard, J: RunName>(scene: &Scene<'_, B, J>, now: &Running<B, J>) {
     if let Mode::Goes = now.mode {
         if is_refused(scene.board.nodes(&now.token)) {
             pause();
@@ -41,7 +41,7 @@ fn pause_if_refused<B: SharedBoard, J: Naming>(scene: &Scene<'_, B, J>, now: &Ru
 }
 
 /// Does what the strand wants, except a fork or its end.
-pub(crate) fn step<B: SharedBoard, J: Naming, G: Gate, R: Threads + Wait + Sync>(
+pub(crate) fn step<B: SharedBoard, J: RunName, G: Gate, R: Threads + Wait + Sync>(
     rt: &R,
     scene: &Scene<'_, B, J>,
     gate: &G,
@@ -73,7 +73,7 @@ pub(crate) fn step<B: SharedBoard, J: Naming, G: Gate, R: Threads + Wait + Sync>
 }
 
 /// Rolls back a block of a strand that goes back. If the strand then stands at its begin again, backs off.
-pub(crate) fn go_back<B: SharedBoard, J: Naming, R: Wait>(
+pub(crate) fn go_back<B: SharedBoard, J: RunName, R: Wait>(
     rt: &R,
     scene: &Scene<'_, B, J>,
     now: &mut Running<B, J>,

@@ -8,7 +8,7 @@ use crate::moves::{check_stop, halt_out_of_memory};
 use crate::sides::{left_number, right_number};
 use crate::splits::try_split;
 use crate::turns::{go_back, step};
-use crate::{Ended, Memo, Mode, Naming, Running, Scene};
+use crate::{Ended, Memo, Mode, RunName, Running, Scene};
 use crossbeam_utils::{Backoff, CachePadded};
 use cw_base::OutOfMemory;
 use cw_deck::Thief;
@@ -23,7 +23,7 @@ use std::thread::Threads;
 
 /// What all workers of a run share.
 #[derive(Drop)]
-pub(crate) struct Common<'a, B: SharedBoard, J: Naming, G: Gate> {
+pub(crate) struct Common<'a, B: SharedBoard, J: RunName, G: Gate> {
     pub(crate) scene: Scene<'a, B, J>,
     pub(crate) gate: &'a G,
     /// The frames of each worker's forks.
@@ -33,7 +33,7 @@ pub(crate) struct Common<'a, B: SharedBoard, J: Naming, G: Gate> {
     pub(crate) over: AtomicU64,
 }
 
-impl<'a, B: SharedBoard, J: Naming, G: Gate> Common<'a, B, J, G> {
+impl<'a, B: SharedBoard, J: RunName, G: Gate> Common<'a, B, J, G> {
     /// Returns the frame of the fork whose pair has this number.
     fn frame(&self, number: u64) -> Option<&Frame<B, J>> {
         self.frames
@@ -57,14 +57,14 @@ pub(crate) fn never<R: Wait, T>(rt: &R) -> T
 }
 
 #[derive(Drop)]
-pub(crate) struct Worker<B: SharedBoard, J: Naming> {
+pub(crate) struct Worker<B: SharedBoard, J: RunName> {
     pub(crate) number: u32,
     pub(crate) boxes: CachePadded<Boxes<B, J>>,
     pub(crate) others: Vec<Thief<TaskBox<B, J>>>,
     pub(crate) source: Source<Memo<B::Token>, J>,
 }
 
-impl<B: SharedBoard, J: Naming> Worker<B, J> {
+impl<B: SharedBoard, J: RunName> Worker<B, J> {
     /// Works until the run is over.
     pub(crate) fn work<G: Gate, R: Threads + Wait + Sync>(
         &mut self,
@@ -313,7 +313,7 @@ impl<B: SharedBoard, J: Naming> Worker<B, J> {
 }
 
 /// Makes the frame of the worker's fork with this pair number.
-fn make_frame<B: SharedBoard, J: Naming, G: Gate, R: Wait>(
+fn make_frame<B: SharedBoard, J: RunName, G: Gate, R: Wait>(
     rt: &R,
     common: &Common<'_, B, J, G>,
     worker: u32,
@@ -326,7 +326,7 @@ fn make_frame<B: SharedBoard, J: Naming, G: Gate, R: Wait>(
 }
 
 /// Retries until every fork outward of this one has been split.
-fn wait_for_split<B: SharedBoard, J: Naming, G: Gate, R: Threads + Wait + Sync>(
+fn wait_for_split<B: SharedBoard, J: RunName, G: Gate, R: Threads + Wait + Sync>(
     rt: &R,
     common: &Common<'_, B, J, G>,
     now: &mut Running<B, J>,

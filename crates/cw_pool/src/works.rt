@@ -12,7 +12,7 @@ use crate::boxes::{Task, TaskBox, empty_box};
 use crate::crew::{Crew, make_workers, run_workers};
 use crate::frames::Frames;
 use crate::worker::{Common, never};
-use crate::{Base, Ended, Memo, Mode, Naming, Running, Scene};
+use crate::{Base, Ended, Memo, Mode, RunName, Running, Scene};
 use cw_base::OutOfMemory;
 use cw_body::Body;
 use cw_code::{Limits, Program};
@@ -28,7 +28,7 @@ use std::thread::Threads;
 
 /// What a run needs before its first thread starts.
 #[derive(Drop)]
-struct Ready<B: SharedBoard, J: Naming> {
+struct Ready<B: SharedBoard, J: RunName> {
     crew: Crew<B, J>,
     /// The frames of each worker's forks.
     frames: Vec<Frames<B, J>>,
@@ -36,7 +36,7 @@ struct Ready<B: SharedBoard, J: Naming> {
     home: TaskBox<B, J>,
 }
 
-fn all_frames<B: SharedBoard, J: Naming>(
+fn all_frames<B: SharedBoard, J: RunName>(
     alloc: Global,
     workers: u32,
     strands: u32,
@@ -48,7 +48,7 @@ fn all_frames<B: SharedBoard, J: Naming>(
     Ok(all)
 }
 
-fn make_ready<B: SharedBoard, J: Naming>(
+fn make_ready<B: SharedBoard, J: RunName>(
     alloc: Global,
     workers: u32,
     strands: u32,
@@ -63,7 +63,7 @@ fn make_ready<B: SharedBoard, J: Naming>(
 }
 
 /// Makes the task of main, with the root's token.
-fn main_strand<B: SharedBoard, J: Naming>(
+fn main_strand<B: SharedBoard, J: RunName>(
     alloc: Global,
     token: B::Token,
     body: Body,
@@ -100,7 +100,7 @@ fn halt_before_start<B: SharedBoard>(board: &B, root: B::Token) -> Whole<B>
 
 /// Asks a last time whether some strand has stopped.
 #[tactic(auto, using(crate::proofs::Tasks::Worked::still_worked, crate::proofs::Tasks::Worked::still_untold))]
-fn check_end<B: SharedBoard, J: Naming>(board: &B, ended: Ended<B, J>) -> Whole<B>
+fn check_end<B: SharedBoard, J: RunName>(board: &B, ended: Ended<B, J>) -> Whole<B>
     ensures worked { IsWorked J.job (B.of result.0) }
     ensures whole { IsTrue result.1 → (B.of result.0).told ≡ false }
 {
@@ -114,7 +114,7 @@ fn check_end<B: SharedBoard, J: Naming>(board: &B, ended: Ended<B, J>) -> Whole<
 }
 
 /// Runs the program, once its pairs have a name.
-fn work_in<'x, B: SharedBoard, J: Naming, G: Gate, R: Threads + Wait + Sync>(
+fn work_in<'x, B: SharedBoard, J: RunName, G: Gate, R: Threads + Wait + Sync>(
     rt: &R,
     scene: Scene<'x, B, J>,
     source: Source<Memo<B::Token>, J>,
@@ -158,7 +158,7 @@ fn work_in<'x, B: SharedBoard, J: Naming, G: Gate, R: Threads + Wait + Sync>(
 }
 
 /// Runs the program under a name of its own.
-fn work_named<'x, B: SharedBoard, J: Naming, G: Gate, R: Threads + Wait + Sync>(
+fn work_named<'x, B: SharedBoard, J: RunName, G: Gate, R: Threads + Wait + Sync>(
     rt: &R,
     alloc: Global,
     board: &'x B,

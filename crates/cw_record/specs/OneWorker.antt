@@ -10,40 +10,40 @@ use Rattle.cw_job.specs.Room.Strands.{StrandState, IsOf, state_of, strands_of_jo
 use Rattle.cw_code.specs.declared.program.Program.{Program}
 use Rattle.cw_record.specs.declared.worker.Branch.{Branch}
 use Rattle.cw_record.specs.declared.worker.Branch.TheVariants.{Left, Right}
-use Rattle.cw_record.specs.declared.worker.Worker.{Worker}
+use Rattle.cw_record.specs.declared.worker.SoleWorker.{SoleWorker}
 use Rattle.cw_record.specs.Drawn.{drawn, drawn_after}
 
 -- the law of the strands that the worker runs
-abbrev pub law_of_worker : Worker → Strands StrandState
+abbrev pub law_of_worker : SoleWorker → Strands StrandState
 law_of_worker w = strands_of_job (job_of_task w.task)
 
 -- what its running strand wants
-abbrev pub want_of_worker : Worker → Want
+abbrev pub want_of_worker : SoleWorker → Want
 want_of_worker w = (law_of_worker w).want (state_of w.strand)
 
 -- The worker switches to another strand: its task, memory, outputs and begun blocks stay.
-pub record SwitchesStrand (old new : Worker) : Type 0 where
+pub record SwitchesStrand (old new : SoleWorker) : Type 0 where
   pub task : new.task ≡ old.task
   pub memory : new.memory ≡ old.memory
   pub outputs : new.outputs ≡ old.outputs
   pub undo : new.undo ≡ old.undo
 
 -- what its begun blocks may put back
-abbrev pub MayPutBack : Worker → List Since → Type 0
+abbrev pub MayPutBack : SoleWorker → List Since → Type 0
 MayPutBack w since = AreSince w.undo w.memory.items since
 
 -- `since` is that, if its strand gives up its block; no other want looks at it
-abbrev pub LooksRight : Worker → List Since → Type 0
+abbrev pub LooksRight : SoleWorker → List Since → Type 0
 LooksRight w since = want_of_worker w ≡ Cancel → MayPutBack w since
 
 -- Only its begun blocks change, with what they may put back: they become those after what its strand wants, all as blocks of strand
 -- 0.
-pub record FollowsBlocks (old new : Worker) : Type 0 where
+pub record FollowsBlocks (old new : SoleWorker) : Type 0 where
   pub same : new ≡ record old { undo = new.undo }
   pub blocks : BlocksFollow (want_of_worker old) 0 old.memory.items old.undo new.undo
 
 -- The worker did what its strand wants, in memory, outputs and drawing. Its task, its begun blocks and its waiting strands stay.
-pub record DoesItsWant (old new : Worker) : Type 0 where
+pub record DoesItsWant (old new : SoleWorker) : Type 0 where
   pub task : new.task ≡ old.task
   pub branches : new.branches ≡ old.branches
   pub memory : new.memory.items ≡ memory_after (want_of_worker old) old.memory.items
@@ -73,6 +73,6 @@ abbrev pub AllBranchesStand : Program → List Branch → Type 0
 AllBranchesStand p branches = All (BranchStands p) branches
 
 -- all strands of the worker are those of its program
-pub record AllStand (w : Worker) : Type 0 where
+pub record AllStand (w : SoleWorker) : Type 0 where
   pub strand : IsOf w.task.program.now w.strand
   pub branches : AllBranchesStand w.task.program.now w.branches

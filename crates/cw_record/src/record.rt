@@ -15,7 +15,7 @@ ghost use Rattle.cw_record.specs.Records.{BlocksEnded, HasEnded, HasItsOutputs, 
 use crate::items::items;
 use crate::left::{end_left, end_of_run};
 use crate::order::order_through;
-use crate::worker::Worker;
+use crate::worker::SoleWorker;
 use crate::{RecordEnd, order_of};
 use cw_base::{OutOfMemory, Seq};
 use cw_code::{Limits, Program};
@@ -58,7 +58,7 @@ pub fn depth_first(
     ensures numbered { IfOk result (λ r. IsNumberedDepthFirst r.tree) }
     ensures blocks { IfOk result (λ r. BlocksEnded r.tree r.end) }
 {
-    let run = match Worker::run(alloc, &program, words.as_slice(), limits) {
+    let run = match SoleWorker::run(alloc, &program, words.as_slice(), limits) {
         Ok(run) => run,
         Err(fault) => {
             drop(program);

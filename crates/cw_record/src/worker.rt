@@ -35,9 +35,9 @@ pub(crate) enum Branch {
     Right { fork: u32, left: Standing },
 }
 
-/// One worker: the strand that it runs, at its want, and the forks on the way down to that strand, innermost first.
+/// The sole worker of a run: the strand that it runs, at its want, and the forks on the way down to that strand, innermost first.
 #[derive(Drop)]
-pub(crate) struct Worker<'a> {
+pub(crate) struct SoleWorker<'a> {
     pub(crate) task: Task<'a>,
     pub(crate) memory: Vec<i64>,
     pub(crate) outputs: Vec<i64>,
@@ -54,14 +54,14 @@ pub(crate) struct Run {
     pub(crate) end: RecordEnd,
 }
 
-impl<'a> Worker<'a> {
+impl<'a> SoleWorker<'a> {
     /// Returns a worker at the first want of main.
     fn begin(
         alloc: Global,
         program: &'a Program,
         words: &'a [i64],
         limits: Limits,
-    ) -> Result<Worker<'a>, OutOfMemory>
+    ) -> Result<SoleWorker<'a>, OutOfMemory>
         requires { TakesWords program.now (length words.now) }
         ensures job { IfOk result (λ w. job_of_task w.task ≡ record { program = program.now; words = words.now; limits = limits }) }
         ensures memory { IfOk result (λ w. w.memory.items ≡ first_memory program.now.cells) }
@@ -93,7 +93,7 @@ impl<'a> Worker<'a> {
                 return Err(fault);
             }
         };
-        Ok(Worker {
+        Ok(SoleWorker {
             task,
             memory,
             outputs: Vec::new(alloc),
@@ -116,7 +116,7 @@ impl<'a> Worker<'a> {
         ensures { IfOk result (λ r. IsWorkerRun (record { program = program.now; words = words.now; limits = limits })
             r.drawing.tree r.drawing.journals.items r.end) }
     {
-        let mut worker = Worker::begin(alloc, program, words, limits)?;
+        let mut worker = SoleWorker::begin(alloc, program, words, limits)?;
         'wants: loop {
             match worker.strand.want() {
                 Want::Fork => match worker.fork(alloc) {

@@ -23,7 +23,7 @@ own_in (on_left k n r ∷ c) b = b ∷ []
 own_in (on_right k n m l ∷ c) b = b ∷ own_in c n
 
 -- the strand that is run: `forks` says how many forks it made, `blocks` how many blocks are begun in it
-pub record Worker (A : Type 0) : Type 0 where
+pub record WorkerState (A : Type 0) : Type 0 where
   pub memory : List ℤ
   pub outputs : List ℤ
   pub branches : List (Branch A)
@@ -50,11 +50,11 @@ is_answer n _ memory since fits d = tt
 
 module _ {A : Type 0} (s : Strands A) where
   -- the machine that it stands for
-  abbrev pub machine_at : Worker A → Machine A
+  abbrev pub machine_at : WorkerState A → Machine A
   machine_at w = record { memory = w.memory; outputs = w.outputs; strands = plugged s w.branches (goes_on s w.forks w.strand); begun = begun_in w.branches w.blocks; since = w.since }
 
   -- after the strand's want was done
-  abbrev pub after_act : Worker A → Worker A
+  abbrev pub after_act : WorkerState A → WorkerState A
   after_act w = record w {
     memory = memory_after (s.want w.strand) w.memory;
     outputs = outputs_after (s.want w.strand) w.outputs;
@@ -64,7 +64,7 @@ module _ {A : Type 0} (s : Strands A) where
   }
 
   -- on the left strand of a new fork
-  abbrev pub after_fork : Worker A → Worker A
+  abbrev pub after_fork : WorkerState A → WorkerState A
   after_fork w = record w { branches = on_left (suc w.forks) w.blocks (s.right w.strand) ∷ w.branches; forks = 0; blocks = 0; strand = s.left w.strand }
 
   -- The strand beneath these forks goes from its beginning to this state: that of main, or one of the two of the innermost fork. The
@@ -76,7 +76,7 @@ module _ {A : Type 0} (s : Strands A) where
       (f : A) × (beside : List ℕ) × IsBeneath c (own_in c n) f × (s.want f ≡ Fork) × GoesTo s (0 ∷ []) (s.left f) beside l × (is_over (s.want l) ≡ true) × GoesTo s (0 ∷ own_in c n) (s.right f) own a
 
   -- It runs one, over a memory of no more elements than the cells have.
-  pub record IsAtWork (w : Worker A) : Type 0 where
+  pub record IsAtWork (w : WorkerState A) : Type 0 where
     pub runs : IsBeneath w.branches (own_in w.branches w.blocks) w.strand
     pub there : length w.memory ≤ s.elements
     pub fits : All (Fits s.elements) w.since
@@ -92,7 +92,7 @@ module _ {A : Type 0} (s : Strands A) where
   reached_beneath (on_right k n m l ∷ c) own a h = of_right (reached_beneath c _ _ h.2) h.3 h.6
 
   -- the strand that is run can be reached
-  pub reached : {w : Worker A} → IsAtWork w → Reached s (own_in w.branches w.blocks) w.strand
+  pub reached : {w : WorkerState A} → IsAtWork w → Reached s (own_in w.branches w.blocks) w.strand
   reached {w = w} h = reached_beneath w.branches _ _ h.runs
 
   -- it goes on beneath the same forks
@@ -151,7 +151,7 @@ module _ {A : Type 0} (s : Strands A) where
   begun_after _ c b d m = refl
 
   module _ (closes : Closes s) where
-    pub acts : (w : Worker A) → IsAtWork w → takes_answer (s.want w.strand) ≡ true → IsAtWork (after_act w)
+    pub acts : (w : WorkerState A) → IsAtWork w → takes_answer (s.want w.strand) ≡ true → IsAtWork (after_act w)
     acts w h d =
         let v : Want = s.want w.strand in
         let given = answer_to v w.memory w.since in
@@ -163,35 +163,35 @@ module _ {A : Type 0} (s : Strands A) where
         }
 
     -- where the strand that is run stands
-    stands_here : (w : Worker A) → wants_fork (s.want w.strand) ≡ false → is_over (s.want w.strand) ≡ false → state_at_end s (goes_on s w.forks w.strand) ≡ None
+    stands_here : (w : WorkerState A) → wants_fork (s.want w.strand) ≡ false → is_over (s.want w.strand) ≡ false → state_at_end s (goes_on s w.forks w.strand) ≡ None
     stands_here w f o = ap (state_at_end s) (goes_nowhere s w.forks w.strand f) ∙ ap (λ b. cond b (Some w.strand) None) o
 
-    pub at_here : (w : Worker A) → wants_fork (s.want w.strand) ≡ false → is_over (s.want w.strand) ≡ false → at s (machine_at w).strands (way w.branches) ≡ Some w.strand
+    pub at_here : (w : WorkerState A) → wants_fork (s.want w.strand) ≡ false → is_over (s.want w.strand) ≡ false → at s (machine_at w).strands (way w.branches) ≡ Some w.strand
     at_here w f o =
         ap (at s (plugged s w.branches (goes_on s w.forks w.strand))) (sym (append-nil (way w.branches)))
         ∙ (at_plugged s w.branches (goes_on s w.forks w.strand) [] (stands_here w f o)
         ∙ ap (λ t. at s t []) (goes_nowhere s w.forks w.strand f))
 
-    pub leftmost_here : (w : Worker A) → IsAtWork w → wants_fork (s.want w.strand) ≡ false → is_over (s.want w.strand) ≡ false → leftmost s (machine_at w).strands ≡ Some (way w.branches)
+    pub leftmost_here : (w : WorkerState A) → IsAtWork w → wants_fork (s.want w.strand) ≡ false → is_over (s.want w.strand) ≡ false → leftmost s (machine_at w).strands ≡ Some (way w.branches)
     leftmost_here w h f o =
         leftmost_plugged s w.branches (goes_on s w.forks w.strand) [] (has_passed w.branches _ _ h.runs) (stands_here w f o) (ap (leftmost s) (goes_nowhere s w.forks w.strand f) ∙ ap (λ b. cond b None (Some [])) o)
         ∙ ap Some (append-nil (way w.branches))
 
-    put_here : (w : Worker A) (b : A) → wants_fork (s.want w.strand) ≡ false → is_over (s.want w.strand) ≡ false → put s (plugged s w.branches (goes_on s w.forks w.strand)) (way w.branches) b ≡ plugged s w.branches (goes_on s w.forks b)
+    put_here : (w : WorkerState A) (b : A) → wants_fork (s.want w.strand) ≡ false → is_over (s.want w.strand) ≡ false → put s (plugged s w.branches (goes_on s w.forks w.strand)) (way w.branches) b ≡ plugged s w.branches (goes_on s w.forks b)
     put_here w b f o =
         ap (λ p. put s (plugged s w.branches (goes_on s w.forks w.strand)) p b) (sym (append-nil (way w.branches)))
         ∙ (put_plugged s w.branches (goes_on s w.forks w.strand) [] b (stands_here w f o)
         ∙ ap (λ t. plugged s w.branches (put s t [] b)) (goes_nowhere s w.forks w.strand f))
 
     -- the machine does the want at a pick
-    does_act : (w : Worker A) → IsAtWork w → takes_answer (s.want w.strand) ≡ true → does s (machine_at w) (way w.branches) w.strand ≡ Some (machine_at (after_act w))
+    does_act : (w : WorkerState A) → IsAtWork w → takes_answer (s.want w.strand) ≡ true → does s (machine_at w) (way w.branches) w.strand ≡ Some (machine_at (after_act w))
     does_act w h d =
         let (o, f) = stands_by (s.want w.strand) d in
         let a : A = s.answer w.strand (answer_to (s.want w.strand) w.memory w.since) in
         ap (option_map (λ blocks. record (machine_at (after_act w)) { strands = put s (machine_at w).strands (way w.branches) a; begun = blocks })) (begun_after (s.want w.strand) w.branches w.blocks d (closes _ _ (reached h)))
         ∙ ap (λ t. Some (record (machine_at (after_act w)) { strands = t })) (put_here w a f o)
 
-    pub act_is_pick : (w : Worker A) → IsAtWork w → takes_answer (s.want w.strand) ≡ true → pick s (machine_at w) (way w.branches) ≡ Some (machine_at (after_act w))
+    pub act_is_pick : (w : WorkerState A) → IsAtWork w → takes_answer (s.want w.strand) ≡ true → pick s (machine_at w) (way w.branches) ≡ Some (machine_at (after_act w))
     act_is_pick w h d =
         let (o, f) = stands_by (s.want w.strand) d in
         ap (pick_at s (machine_at w) (way w.branches)) (at_here w f o)
@@ -199,7 +199,7 @@ module _ {A : Type 0} (s : Strands A) where
 
     -- ## Forks and joins
 
-    pub forks_off : (w : Worker A) → IsAtWork w → s.want w.strand ≡ Fork → IsAtWork (after_fork w)
+    pub forks_off : (w : WorkerState A) → IsAtWork w → s.want w.strand ≡ Fork → IsAtWork (after_fork w)
     forks_off w h f = record { runs = (w.strand, h.runs, f, refl, stays); there = h.there; fits = h.fits }
 
     -- a strand is at its end without a block of its own
@@ -211,7 +211,7 @@ module _ {A : Type 0} (s : Strands A) where
     no_block _ b bs o m = absurd (cc o)
 
     -- so the strand that is run has none where it is at its end
-    pub none_begun : (w : Worker A) → IsAtWork w → is_over (s.want w.strand) ≡ true → w.blocks ≡ 0
+    pub none_begun : (w : WorkerState A) → IsAtWork w → is_over (s.want w.strand) ≡ true → w.blocks ≡ 0
     none_begun w h o = by w.branches (closes _ _ (reached h)) where
       by : (c : List (Branch A)) → MayWant (s.want w.strand) (own_in c w.blocks) → w.blocks ≡ 0
       by [] m = no_block (s.want w.strand) w.blocks [] o m
@@ -219,15 +219,15 @@ module _ {A : Type 0} (s : Strands A) where
       by (on_right k n x l ∷ c) m = no_block (s.want w.strand) w.blocks (own_in c n) o m
 
     -- the machine is the same on the left strand of a fork
-    pub fork_stays : (deep : IsDeep s) (w : Worker A) → s.want w.strand ≡ Fork → machine_at (after_fork w) ≡ machine_at w
+    pub fork_stays : (deep : IsDeep s) (w : WorkerState A) → s.want w.strand ≡ Fork → machine_at (after_fork w) ≡ machine_at w
     fork_stays deep w f = ap (λ t. record { memory = w.memory; outputs = w.outputs; strands = plugged s w.branches t; begun = begun_in w.branches w.blocks; since = w.since }) (sym (goes_forking s deep w.forks w.strand f))
 
     module _ (memory outputs : List ℤ) (since : List Since) (c : List (Branch A)) (k n : ℕ) (m b : ℕ) (a : A) (over : is_over (s.want a) ≡ true) where
       -- at the end of a left strand, where the right one is to come
-      abbrev pub at_left_end : A → Worker A
+      abbrev pub at_left_end : A → WorkerState A
       at_left_end r = record { memory = memory; outputs = outputs; branches = on_left k n r ∷ c; forks = m; blocks = b; since = since; strand = a }
 
-      abbrev pub after_turn : A → Worker A
+      abbrev pub after_turn : A → WorkerState A
       after_turn r = record { memory = memory; outputs = outputs; branches = on_right k n m a ∷ c; forks = 0; blocks = 0; since = since; strand = r }
 
       pub turns_right : (r : A) → IsAtWork (at_left_end r) → IsAtWork (after_turn r)
@@ -241,10 +241,10 @@ module _ {A : Type 0} (s : Strands A) where
           ∙ ap (λ x. record { memory = memory; outputs = outputs; strands = plugged s c (meet s (goes_on s) k (goes_on s m a) (goes_on s 0 r)); begun = begun_in (on_left k n r ∷ c) x; since = since }) (sym (no_block (s.want a) b [] over (closes _ _ (reached h))))
 
       -- at the end of a right strand, where the left one has ended
-      abbrev pub at_right_end : ℕ → A → Worker A
+      abbrev pub at_right_end : ℕ → A → WorkerState A
       at_right_end o l = record { memory = memory; outputs = outputs; branches = on_right k n o l ∷ c; forks = m; blocks = b; since = since; strand = a }
 
-      abbrev pub after_join : A → Worker A
+      abbrev pub after_join : A → WorkerState A
       after_join l = record { memory = memory; outputs = outputs; branches = c; forks = k; blocks = n; since = since; strand = s.joined a l }
 
       pub joins_up : (o : ℕ) (l : A) → IsAtWork (at_right_end o l) → IsAtWork (after_join l)

@@ -3,13 +3,13 @@ use Rattle.std.specs.Prelude.{◌≡◌, ℕ, suc, ◌+◌, ◌-◌, ◌%◌, �
 use Rattle.cw_tree.specs.Nodes.{below}
 use Rattle.cw_tree.specs.Walks.{has}
 use Rattle.cw_sim.specs.Workers.{Worker, waiting, worker_in}
-use Rattle.cw_sim.specs.declared.worker.Worker.{Worker as InMemory}
+use Rattle.cw_sim.specs.declared.worker.WorkerInMemory.{WorkerInMemory}
 
 -- the worker that one in memory represents
-abbrev pub worker_of : InMemory → Worker
+abbrev pub worker_of : WorkerInMemory → Worker
 worker_of w = record { runs = w.runs; deque = w.deque.items; inline = w.inline.items }
 
-abbrev pub workers_of : List InMemory → List Worker
+abbrev pub workers_of : List WorkerInMemory → List Worker
 workers_of ws = map worker_of ws
 
 -- the workers after w, going round, if there are `count` of them

@@ -15,7 +15,7 @@ ghost use Rattle.cw_core.specs.Events.{fits};
 use crate::by_node::ByNode;
 use crate::turns::Turns;
 use crate::worker::{
-    Worker, opening, take_newest, take_oldest, with_fork, with_run, worker_to_rob,
+    WorkerInMemory, opening, take_newest, take_oldest, with_fork, with_run, worker_to_rob,
 };
 use cw_base::OutOfMemory;
 use cw_code::{Limits, Program};
@@ -36,7 +36,7 @@ pub(crate) struct Driver<'a> {
     pub(crate) bodies: ByNode<Standing>,
     /// What is saved at the begins of pending blocks.
     pub(crate) saved: ByNode<Saved>,
-    pub(crate) workers: Vec<Worker>,
+    pub(crate) workers: Vec<WorkerInMemory>,
 }
 
 // Each rule does what the definition with its name says.

@@ -7,7 +7,7 @@ use std::collections::VecDeque;
 
 /// A worker. It runs in the left strand of each fork that waits in it. The right strand of such a fork has yet to start.
 #[derive(Drop)]
-pub(crate) struct Worker {
+pub(crate) struct WorkerInMemory {
     /// The strand that it runs, or `None` if it is idle.
     pub(crate) runs: Option<u32>,
     /// The forks that other workers may take from it, oldest first.
@@ -19,12 +19,12 @@ pub(crate) struct Worker {
 ghost use Rattle.cw_sim.specs.WorkersInMemory.{first_with_forks, workers_next, IsLast, without_waiting, workers_of};
 
 /// Returns a worker in which no fork waits.
-fn resting_worker(alloc: Global, runs: Option<u32>) -> Worker
+fn resting_worker(alloc: Global, runs: Option<u32>) -> WorkerInMemory
     ensures runs { result.runs ≡ runs }
     ensures deque { result.deque.items ≡ [] }
     ensures inline { result.inline.items ≡ [] }
 {
-    Worker {
+    WorkerInMemory {
         runs,
         deque: VecDeque::new(alloc),
         inline: Vec::new(alloc),
@@ -32,7 +32,7 @@ fn resting_worker(alloc: Global, runs: Option<u32>) -> Worker
 }
 
 /// Returns `workers` workers: the first runs strand 0, and the others are idle.
-pub(crate) fn opening(alloc: Global, workers: u32) -> Result<Vec<Worker>, OutOfMemory>
+pub(crate) fn opening(alloc: Global, workers: u32) -> Result<Vec<WorkerInMemory>, OutOfMemory>
     requires { 0 < workers }
     ensures { IfOk result (λ ws. workers_of ws.items ≡ record idle { runs = Some 0 } ∷ replicate (workers - 1) idle) }
 {
@@ -45,7 +45,7 @@ pub(crate) fn opening(alloc: Global, workers: u32) -> Result<Vec<Worker>, OutOfM
 }
 
 /// Returns the first worker after worker `w`, going round, from which a fork may be taken.
-pub(crate) fn worker_to_rob(workers: &[Worker], w: u32) -> Option<usize>
+pub(crate) fn worker_to_rob(workers: &[WorkerInMemory], w: u32) -> Option<usize>
     requires { w < length workers.now }
     ensures { result ≡ first_with_forks (workers_of workers.now) (workers_next w (length workers.now)) }
 {
@@ -60,7 +60,7 @@ pub(crate) fn worker_to_rob(workers: &[Worker], w: u32) -> Option<usize>
 }
 
 /// Makes worker `w` run this strand, or makes it idle.
-pub(crate) fn with_run(workers: &mut Vec<Worker>, w: u32, runs: Option<u32>)
+pub(crate) fn with_run(workers: &mut Vec<WorkerInMemory>, w: u32, runs: Option<u32>)
     requires { w < vec_len workers.old }
     ensures { workers_of workers.new.items ≡ slice_set (workers_of workers.old.items) w (record (worker_in (workers_of workers.old.items) w) { runs = runs }) }
 {
@@ -69,7 +69,7 @@ pub(crate) fn with_run(workers: &mut Vec<Worker>, w: u32, runs: Option<u32>)
 }
 
 /// Takes the oldest fork from the deque of worker `w`.
-pub(crate) fn take_oldest(workers: &mut Vec<Worker>, w: usize) -> Option<u32>
+pub(crate) fn take_oldest(workers: &mut Vec<WorkerInMemory>, w: usize) -> Option<u32>
     requires { w < vec_len workers.old }
     ensures { (f : ℕ) (fs : List ℕ) → (worker_in (workers_of workers.old.items) w).deque ≡ f ∷ fs → (result ≡ Some f)
         × (workers_of workers.new.items ≡ slice_set (workers_of workers.old.items) w (record (worker_in (workers_of workers.old.items) w) { deque = fs })) }
@@ -79,7 +79,7 @@ pub(crate) fn take_oldest(workers: &mut Vec<Worker>, w: usize) -> Option<u32>
 }
 
 /// Removes the fork that waits last in worker `w`.
-pub(crate) fn take_newest(workers: &mut Vec<Worker>, w: u32, _fork: u32)
+pub(crate) fn take_newest(workers: &mut Vec<WorkerInMemory>, w: u32, _fork: u32)
     requires there { w < vec_len workers.old }
     requires last { IsLast (worker_in (workers_of workers.old.items) w) _fork }
     ensures { workers_of workers.new.items ≡ slice_set (workers_of workers.old.items) w (without_waiting _fork (worker_in (workers_of workers.old.items) w)) }
@@ -92,7 +92,7 @@ pub(crate) fn take_newest(workers: &mut Vec<Worker>, w: u32, _fork: u32)
 
 /// Makes a new fork wait in worker `w`: in its deque if the strands have columns, otherwise inline.
 pub(crate) fn with_fork(
-    workers: &mut Vec<Worker>,
+    workers: &mut Vec<WorkerInMemory>,
     w: u32,
     columns: bool,
     fork: u32,

@@ -13,7 +13,7 @@ use Rattle.cw_steps.specs.declared.closing.bases.Bases.{Bases}
 use Rattle.cw_steps.specs.declared.draw.Aim.TheVariants.{Look}
 use Rattle.cw_steps.specs.declared.track.Track.{Track}
 use Rattle.cw_steps.specs.declared.view.Key.{Key}
-use Rattle.cw_steps.specs.declared.view.Note.{Note}
+use Rattle.cw_steps.specs.declared.view.WordNote.{WordNote}
 use Rattle.cw_steps.specs.declared.view.Slot.{Slot}
 use Rattle.cw_steps.specs.declared.view.Slot.TheVariants as slot
 use Rattle.cw_steps.specs.declared.view.View.{View}
@@ -45,7 +45,7 @@ IsPlain x = (x.state ≡ Committed) × (x.end ≡ 0)
 -- the seat took turns and gave them back, and did nothing else
 pub record HasReturned (me me' : Me Slot View) : Type 0 where
   pub seen : ℕ
-  pub notes : List Note
+  pub notes : List WordNote
   pub later : me.0.seen ≤ seen
   pub after : me' ≡ (record me.0 { seen = seen; notes = notes }, me.1)
 

@@ -23,4 +23,4 @@ pub use draw::{Aim, Draw, Home};
 pub use places::Place;
 pub use table::{Shared, StrandToken};
 pub use track::{Ahead, Stood, Track};
-pub use view::{Coming, Found, Key, Logged, Note, Placed, Slot, Turn, View, Whereabouts};
+pub use view::{Coming, Found, Key, Logged, Placed, Slot, Turn, View, Whereabouts, WordNote};

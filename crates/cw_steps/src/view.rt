@@ -57,7 +57,7 @@ pub struct Coming {
 }
 
 /// A word of the table, and what the seat found in it or left there. Ghost state, never constructed at run time.
-pub struct Note {
+pub struct WordNote {
     pub word: u64,
     pub value: u64,
 }
@@ -115,7 +115,7 @@ pub struct View {
     /// It saw that some token has halted.
     pub told: bool,
     /// What it found in words that it read and left in words that it wrote, newest first.
-    pub notes: Seq<Note>,
+    pub notes: Seq<WordNote>,
     /// The numbers that it may still draw.
     pub room: u64,
     /// The columns in use that it owns: at least one for each log of its list.

@@ -3,7 +3,7 @@ ghost use Rattle.std.specs.Prelude.{◌≡◌, ◌<◌, IfOk, IfSome, Some};
 
 use cw_base::OutOfMemory;
 use cw_deck::{Deck, Thief};
-use cw_pair::{Half, Naming, Opened, Pairs, Source};
+use cw_pair::{Half, Opened, Pairs, Source, TableName};
 use std::alloc::Global;
 use std::marker::Brand;
 use std::sync::{Mutex, Wait};
@@ -15,13 +15,13 @@ const LOOKS: u64 = 1_000_000_000;
 
 /// A value, with a half that stands for it.
 #[derive(Drop)]
-struct Side<N: Naming> {
+struct Side<N: TableName> {
     value: u32,
     half: Half<u32, N>,
     ghost stands: { half.of ≡ Some value },
 }
 
-fn forks<N: Naming>(
+fn forks<N: TableName>(
     pairs: &Pairs<u32, N>,
     source: &mut Source<u32, N>,
     value: u32,
@@ -33,7 +33,7 @@ fn forks<N: Naming>(
 }
 
 /// Returns the values of two sides, if they belong to one pair.
-fn meets<N: Naming>(pairs: &Pairs<u32, N>, mine: Side<N>, other: Side<N>) -> Option<(u32, u32)>
+fn meets<N: TableName>(pairs: &Pairs<u32, N>, mine: Side<N>, other: Side<N>) -> Option<(u32, u32)>
     ensures { IfSome result (λ values. values.0 ≡ values.1) }
 {
     let here = mine.value;
@@ -48,7 +48,7 @@ fn meets<N: Naming>(pairs: &Pairs<u32, N>, mine: Side<N>, other: Side<N>) -> Opt
 }
 
 /// Steals a side and leaves it under the lock.
-fn parks<N: Naming, R: Wait>(rt: &R, thief: Thief<Side<N>>, frame: &Mutex<Option<Side<N>>>) {
+fn parks<N: TableName, R: Wait>(rt: &R, thief: Thief<Side<N>>, frame: &Mutex<Option<Side<N>>>) {
     let mut thief = thief;
     for _ in 0..LOOKS {
         if let Some(side) = thief.steal(rt) {
@@ -60,7 +60,7 @@ fn parks<N: Naming, R: Wait>(rt: &R, thief: Thief<Side<N>>, frame: &Mutex<Option
 }
 
 /// A deque with its thief.
-fn decks<N: Naming>(alloc: Global) -> Result<(Deck<Side<N>>, Thief<Side<N>>), OutOfMemory> {
+fn decks<N: TableName>(alloc: Global) -> Result<(Deck<Side<N>>, Thief<Side<N>>), OutOfMemory> {
     let mut deck = Deck::new(alloc)?;
     match deck.thief() {
         Ok(thief) => Ok((deck, thief)),
@@ -71,7 +71,7 @@ fn decks<N: Naming>(alloc: Global) -> Result<(Deck<Side<N>>, Thief<Side<N>>), Ou
     }
 }
 
-fn pushes<N: Naming>(deck: &mut Deck<Side<N>>, side: Side<N>) -> Result<(), OutOfMemory> {
+fn pushes<N: TableName>(deck: &mut Deck<Side<N>>, side: Side<N>) -> Result<(), OutOfMemory> {
     match deck.push(side) {
         Ok(()) => Ok(()),
         Err(back) => {
@@ -82,7 +82,10 @@ fn pushes<N: Naming>(deck: &mut Deck<Side<N>>, side: Side<N>) -> Result<(), OutO
 }
 
 /// What another thread stole and left under a lock.
-fn stolen<N: Naming, R: Threads + Wait + Sync>(rt: &R, thief: Thief<Side<N>>) -> Option<Side<N>> {
+fn stolen<N: TableName, R: Threads + Wait + Sync>(
+    rt: &R,
+    thief: Thief<Side<N>>,
+) -> Option<Side<N>> {
     let frame: Mutex<Option<Side<N>>> = Mutex::new(None);
     let shared = &frame;
     let _ = thread::join(rt, || parks(rt, thief, shared), || ());
@@ -90,7 +93,7 @@ fn stolen<N: Naming, R: Threads + Wait + Sync>(rt: &R, thief: Thief<Side<N>>) ->
 }
 
 /// A side that went through a deque to another thread, and back.
-fn crossed<N: Naming, R: Threads + Wait + Sync>(
+fn crossed<N: TableName, R: Threads + Wait + Sync>(
     rt: &R,
     alloc: Global,
     side: Side<N>,
@@ -114,7 +117,7 @@ fn crossed<N: Naming, R: Threads + Wait + Sync>(
     crossed
 }
 
-fn crosses<N: Naming, R: Threads + Wait + Sync>(
+fn crosses<N: TableName, R: Threads + Wait + Sync>(
     rt: &R,
     alloc: Global,
     opened: Opened<u32>,

@@ -5,7 +5,7 @@ use Rattle.std.specs.Prelude.{IsTrue}
 use Rattle.cw_strand.specs.Strands.{is_over}
 use Rattle.cw_job.specs.Jobs.{Job}
 use Rattle.cw_job.specs.Room.Strands.{StrandState, strands_of_job}
-use Rattle.cw_pair.specs.declared.view.Note.{Note}
+use Rattle.cw_pair.specs.declared.view.Binding.{Binding}
 use Rattle.cw_log.specs.declared.token.Open.{Open}
 use Rattle.cw_log.specs.declared.token.Phase.TheVariants.{Going, Over}
 use Rattle.cw_log.specs.declared.token.Side.TheVariants.{Beside}
@@ -61,7 +61,7 @@ module _ (job : Job) where
 
 module _ {T : Type 0} (job : Job) (of : T → Token) where
   -- both halves tell of one log
-  pub one_start : (half theirs : Note (Memo T)) (a b : Start) → half.of ≡ theirs.of → IsHalf job of half a → IsHalf job of theirs b → a ≡ b
+  pub one_start : (half theirs : Binding (Memo T)) (a b : Start) → half.of ≡ theirs.of → IsHalf job of half a → IsHalf job of theirs b → a ≡ b
   one_start half theirs a b e (m, is, tells) (k, those, others) = sym tells ∙ ap (λ w. told_by job of w) (one_some m k (sym is ∙ (e ∙ those))) ∙ others
 
   -- with the split as it is
@@ -87,7 +87,7 @@ module _ {T : Type 0} (job : Job) (of : T → Token) where
 module _ {T J : Type 0} (job : Job) (of : T → Token) where
   -- ## The left one
 
-  pub record LeftTop (lowest a : Start) (t : Trail StrandState) (os : List Open) (n : ℕ) (half : Note (Memo T)) (rest : List (Below T J)) : Type 0 where
+  pub record LeftTop (lowest a : Start) (t : Trail StrandState) (os : List Open) (n : ℕ) (half : Binding (Memo T)) (rest : List (Below T J)) : Type 0 where
     pub outer : Trail StrandState
     pub behind : Course
     pub at : StrandState
@@ -99,23 +99,23 @@ module _ {T J : Type 0} (job : Job) (of : T → Token) where
     pub is_half : IsHalf job of half (beside (strands_of_job job) a outer behind at column n)
     pub under : AreWaitingBelow job of lowest a outer others rest
 
-  left_top : {lowest a : Start} {t : Trail StrandState} {os : List Open} {n : ℕ} {half : Note (Memo T)} {rest : List (Below T J)} → IsOutside t → AreWaitingBelow job of lowest a t os (below.Left n half ∷ rest)
+  left_top : {lowest a : Start} {t : Trail StrandState} {os : List Open} {n : ℕ} {half : Binding (Memo T)} {rest : List (Below T J)} → IsOutside t → AreWaitingBelow job of lowest a t os (below.Left n half ∷ rest)
       → LeftTop lowest a t os n half rest
   left_top o (waiting.block h) = absurd o
   left_top o (waiting.left {t = u} {os = os} {cs = cs} {b = b} {column = column} {stamp = stamp} e h) =
       record { outer = u; behind = cs; at = b; column = column; stamp = stamp; others = os; trail = refl; forks = refl; is_half = e; under = h }
 
-  pub left_of : (x : Token) (left : InBlocks) (how : Mode) (bs : List (Below T J)) (b : Base T J) (n : ℕ) (half : Note (Memo T)) (f : Finished job of x left how (bs ++ below.Left n half ∷ []) b)
+  pub left_of : (x : Token) (left : InBlocks) (how : Mode) (bs : List (Below T J)) (b : Base T J) (n : ℕ) (half : Binding (Memo T)) (f : Finished job of x left how (bs ++ below.Left n half ∷ []) b)
       → LeftTop f.lowest f.start f.trail x.forks n half (reverse bs)
   left_of x left how bs b n half f = left_top f.leaves.outside (top_first job of bs (below.Left n half) f.below)
 
   -- where the right strand's log begins, by the left task
-  abbrev pub right_begins : {lowest a : Start} {t : Trail StrandState} {os : List Open} {n : ℕ} {half : Note (Memo T)} {rest : List (Below T J)} → LeftTop lowest a t os n half rest → Start
+  abbrev pub right_begins : {lowest a : Start} {t : Trail StrandState} {os : List Open} {n : ℕ} {half : Binding (Memo T)} {rest : List (Below T J)} → LeftTop lowest a t os n half rest → Start
   right_begins {a = a} {n = n} i = beside (strands_of_job job) a i.outer i.behind i.at i.column n
 
   -- ## The right one, which was not started
 
-  pub unstarted : (y : Token) (right : InBlocks) (g : ℕ) (half theirs : Note (Memo T)) (p : Start) → IsRunning {T = T} {J = J} job of y right mode.Waits [] (base.Right g theirs) → half.of ≡ theirs.of → IsHalf job of half p
+  pub unstarted : (y : Token) (right : InBlocks) (g : ℕ) (half theirs : Binding (Memo T)) (p : Start) → IsRunning {T = T} {J = J} job of y right mode.Waits [] (base.Right g theirs) → half.of ≡ theirs.of → IsHalf job of half p
       → Unstarted job y right p
   unstarted y right g half theirs p r same is =
       let (lowest_so, over, none) = at_bottom job of (subst IsOutside (sym r.stands.trail) tt) r.below in
@@ -132,7 +132,7 @@ module _ {T J : Type 0} (job : Job) (of : T → Token) where
 
   -- ## It is taken back
 
-  pub back_goes : (x y z : Token) (tok : T) (how : Mode) (body right : InBlocks) (n g : ℕ) (half theirs : Note (Memo T)) (bs cs : List (Below T J)) (b : Base T J) → how ≡ mode.Goes
+  pub back_goes : (x y z : Token) (tok : T) (how : Mode) (body right : InBlocks) (n g : ℕ) (half theirs : Binding (Memo T)) (bs cs : List (Below T J)) (b : Base T J) → how ≡ mode.Goes
       → IsRunning job of x body how (bs ++ below.Left n half ∷ []) b → MayEnd how x body → IsRunning {T = T} {J = J} job of y right mode.Waits [] (base.Right g theirs) → half.of ≡ theirs.of
       → of tok ≡ is_over_now x → z ≡ goes_now y → cs ≡ bs ++ below.Taken tok body ∷ [] → IsRunning job of z right mode.Goes cs b
   back_goes x y z tok how body right n g half theirs bs cs b is r0 may r2 same over_now goes pushed_so =
@@ -158,7 +158,7 @@ module _ {T J : Type 0} (job : Job) (of : T → Token) where
         stands = right_goes_on job y right p u;
       }))
 
-  pub back_fork : (x y : Token) (how : Mode) (body right : InBlocks) (n g : ℕ) (half theirs : Note (Memo T)) (bs : List (Below T J)) (b : Base T J) → how ≡ mode.Goes
+  pub back_fork : (x y : Token) (how : Mode) (body right : InBlocks) (n g : ℕ) (half theirs : Binding (Memo T)) (bs : List (Below T J)) (b : Base T J) → how ≡ mode.Goes
       → IsRunning job of x body how (bs ++ below.Left n half ∷ []) b → MayEnd how x body → IsRunning {T = T} {J = J} job of y right mode.Waits [] (base.Right g theirs) → half.of ≡ theirs.of → AreOfOneFork x y
   back_fork x y how body right n g half theirs bs b is r0 may r2 same =
       let r = runs_so job of is r0 in
@@ -166,13 +166,13 @@ module _ {T J : Type 0} (job : Job) (of : T → Token) where
       let u = unstarted y right g half theirs (right_begins i) r2 same i.is_half in
       record { inner = opened (Beside n) r.start i.outer; outer = i.others; left = i.forks; fork = ap (λ (m : ℕ). Beside m) (sym u.fits.fork); right = u.none }
 
-  pub back_there : (x y : Token) (how : Mode) (body right : InBlocks) (n g : ℕ) (half theirs : Note (Memo T)) (bs : List (Below T J)) (b : Base T J) → how ≡ mode.Goes
+  pub back_there : (x y : Token) (how : Mode) (body right : InBlocks) (n g : ℕ) (half theirs : Binding (Memo T)) (bs : List (Below T J)) (b : Base T J) → how ≡ mode.Goes
       → IsRunning job of x body how (bs ++ below.Left n half ∷ []) b → MayEnd how x body → IsRunning {T = T} {J = J} job of y right mode.Waits [] (base.Right g theirs) → MayTakeBack x y
   back_there x y how body right n g half theirs bs b is r0 may r2 =
       let r = runs_so job of is r0 in
       (r.stands.phase, r.written.place ∙ outside_there r.trail (goes_outside job of x body (bs ++ below.Left n half ∷ []) b r (may_so x body is may)).0 ∙ sym r.written.strand, r2.stands.phase)
 
-  pub waits_alone : (y : Token) (right : InBlocks) (how : Mode) (g : ℕ) (theirs : Note (Memo T)) (rest : List (Below T J)) → rest ≡ [] → how ≡ mode.Waits → IsRunning job of y right how rest (base.Right g theirs)
+  pub waits_alone : (y : Token) (right : InBlocks) (how : Mode) (g : ℕ) (theirs : Binding (Memo T)) (rest : List (Below T J)) → rest ≡ [] → how ≡ mode.Waits → IsRunning job of y right how rest (base.Right g theirs)
       → IsRunning {T = T} {J = J} job of y right mode.Waits [] (base.Right g theirs)
   waits_alone y right how g theirs rest e w r =
       subst (λ (us : List (Below T J)). IsRunning job of y right mode.Waits us (base.Right g theirs)) e (subst (λ (m : Mode). IsRunning job of y right m rest (base.Right g theirs)) w r)

@@ -8,7 +8,7 @@ use Rattle.cw_job.specs.Room.Strands.{StrandState, strands_of_job}
 use Rattle.cw_tree.specs.declared.node.Kind.TheVariants.{Strand, Fork}
 use Rattle.cw_tree.specs.declared.closed.Halt.TheVariants.{Memory}
 use Rattle.cw_tree.specs.Nodes.{fresh_node}
-use Rattle.cw_pair.specs.declared.view.Note.{Note}
+use Rattle.cw_pair.specs.declared.view.Binding.{Binding}
 use Rattle.cw_log.specs.declared.log.Log.{Log}
 use Rattle.cw_log.specs.declared.token.Open.{Open}
 use Rattle.cw_log.specs.declared.token.Side.{Side}
@@ -109,7 +109,7 @@ module _ (job : Job) where
 
 module _ {T : Type 0} (job : Job) (of : T → Token) where
   -- what a memo says of the right strand is where that begins
-  half_tells : (half : Note (Memo T)) (m : Memo T) (x : Token) (body : InBlocks) (a : Start) (t : Trail StrandState) (cs : Course) (fork column : ℕ) (s : StandsGoing job x body a t cs) → Fits x a t cs
+  half_tells : (half : Binding (Memo T)) (m : Memo T) (x : Token) (body : InBlocks) (a : Start) (t : Trail StrandState) (cs : Course) (fork column : ℕ) (s : StandsGoing job x body a t cs) → Fits x a t cs
       → half.of ≡ Some m → m.before.value ≡ body → of m.right.value ≡ right_of x fork column → IsHalf job of half (beside (strands_of_job job) a t cs s.now column fork)
   half_tells half m x body a t cs fork column s w is before right =
       let st = strands_of_job job in
@@ -169,7 +169,7 @@ module _ {T J : Type 0} (job : Job) (of : T → Token) where
       (waiting.first (right_there job x body right r.start r.trail r.course r.stands r_is) r.below)))
 
   -- the left strand of one that has two
-  pub left_so : (x z : Token) (how : Mode) (body left : InBlocks) (bs : List (Below T J)) (b : Base T J) (half : Note (Memo T)) (m : Memo T) (stamp fork column : ℕ) → how ≡ mode.Goes
+  pub left_so : (x z : Token) (how : Mode) (body left : InBlocks) (bs : List (Below T J)) (b : Base T J) (half : Binding (Memo T)) (m : Memo T) (stamp fork column : ℕ) → how ≡ mode.Goes
       → IsRunning job of x body how bs b → (strands_of_job job).want body.state ≡ want.Fork → left ≡ bodies.left_of (strands_of_job job) body → z ≡ forked x stamp fork
       → half.of ≡ Some m → m.before.value ≡ body → of m.right.value ≡ right_of x fork column → IsRunning job of z left mode.Goes (bs ++ below.Left fork half ∷ []) b
   left_so x z how body left bs b half m stamp fork column is r0 wants l_is forked_so h before right =
@@ -179,7 +179,7 @@ module _ {T J : Type 0} (job : Job) (of : T → Token) where
       (waiting.left (half_tells job of half m x body r.start r.trail r.course fork column r.stands r.written h before right) r.below))
 
   -- and its right one, which waits
-  pub right_so : (x y : Token) (how : Mode) (body right : InBlocks) (bs : List (Below T J)) (b : Base T J) (half : Note (Memo T)) (m : Memo T) (fork column : ℕ) → how ≡ mode.Goes
+  pub right_so : (x y : Token) (how : Mode) (body right : InBlocks) (bs : List (Below T J)) (b : Base T J) (half : Binding (Memo T)) (m : Memo T) (fork column : ℕ) → how ≡ mode.Goes
       → IsRunning job of x body how bs b → (strands_of_job job).want body.state ≡ want.Fork → right ≡ bodies.right_of (strands_of_job job) body → y ≡ right_of x fork column
       → half.of ≡ Some m → m.before.value ≡ body → of m.right.value ≡ right_of x fork column → IsRunning {T = T} {J = J} job of y right mode.Waits [] (base.Right fork half)
   right_so x y how body right bs b half m fork column is r0 wants r_is right_is h before told =

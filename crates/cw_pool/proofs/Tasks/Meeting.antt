@@ -3,7 +3,7 @@
 use Rattle.std.proofs.Common.{◌≡◌, ℕ, List, [], ◌∷◌, ◌++◌, refl, ap, sym, ◌∙◌, subst, true, false, inr, Some}
 use Rattle.cw_job.specs.Jobs.{Job}
 use Rattle.cw_job.specs.Room.Strands.{StrandState}
-use Rattle.cw_pair.specs.declared.view.Note.{Note}
+use Rattle.cw_pair.specs.declared.view.Binding.{Binding}
 use Rattle.cw_log.specs.declared.token.Open.{Open}
 use Rattle.cw_log.specs.declared.token.Phase.{Phase}
 use Rattle.cw_log.specs.declared.token.Phase.TheVariants.{Going, Parted, Waiting}
@@ -59,7 +59,7 @@ right_not_stopped mode.Waits k n e = n e
 
 module _ {T : Type 0} (J : Type 0) (job : Job) (of : T → Token) where
   -- a right strand that ended without a stop was split
-  split_there : (g : ℕ) (half : Note (Memo T)) (k : Mode) (a : Start) → (k ≡ mode.Stopped → ⊥) → (k ≡ mode.Waits → ⊥) → IsBase {T = T} {J = J} job of (base.Right g half) k a → a.split ≡ true
+  split_there : (g : ℕ) (half : Binding (Memo T)) (k : Mode) (a : Start) → (k ≡ mode.Stopped → ⊥) → (k ≡ mode.Waits → ⊥) → IsBase {T = T} {J = J} job of (base.Right g half) k a → a.split ≡ true
   split_there g half mode.Goes a n o i = i.2
   split_there g half (mode.Dies to) a n o i = i.2
   split_there g half mode.Stopped a n o i = absurd (n refl)
@@ -93,7 +93,7 @@ module _ {T J : Type 0} (job : Job) (of : T → Token) where
   -- ## Any two
 
   -- the strand that forked, with what both leave
-  joined_behind : (x y u : Token) (m k : Mode) (left right : InBlocks) (n : ℕ) (half : Note (Memo T)) (bs : List (Below T J)) (b : Base T J) (f : Finished job of x left m (bs ++ below.Left n half ∷ []) b) (rs : Course) (p : Phase)
+  joined_behind : (x y u : Token) (m k : Mode) (left right : InBlocks) (n : ℕ) (half : Binding (Memo T)) (bs : List (Below T J)) (b : Base T J) (f : Finished job of x left m (bs ++ below.Left n half ∷ []) b) (rs : Course) (p : Phase)
       → (m ≡ mode.Waits → ⊥) → (mode_of_both m k ≡ mode.Waits → ⊥) → RightLeaves job k y right (right_begins job of (left_of job of x left m bs b n half f)) rs
       → ((mode_of_both m k ≡ mode.Stopped → ⊥) → p ≡ Going) → u ≡ as_one x y f.start (left_of job of x left m bs b n half f).outer (left_of job of x left m bs b n half f).others p
       → IsBehind job of (mode_of_both m k) u right left bs b
@@ -109,7 +109,7 @@ module _ {T J : Type 0} (job : Job) (of : T → Token) where
   -- ## Both have ended
 
   -- what the right task leaves, beside a left one
-  record Met (x y : Token) (m k : Mode) (left right : InBlocks) (n : ℕ) (half : Note (Memo T)) (bs : List (Below T J)) (b : Base T J) : Type 0 where
+  record Met (x y : Token) (m k : Mode) (left right : InBlocks) (n : ℕ) (half : Binding (Memo T)) (bs : List (Below T J)) (b : Base T J) : Type 0 where
     pub ended : Finished job of x left m (bs ++ below.Left n half ∷ []) b
     pub course : Course
     pub leaves : RightLeaves job k y right (right_begins job of (left_of job of x left m bs b n half ended)) course
@@ -120,7 +120,7 @@ module _ {T J : Type 0} (job : Job) (of : T → Token) where
     pub first : m ≡ mode.Waits → ⊥
     pub second : k ≡ mode.Waits → ⊥
 
-  met : (x y : Token) (m k : Mode) (left right : InBlocks) (n g : ℕ) (half theirs : Note (Memo T)) (bs : List (Below T J)) (b : Base T J) → IsRunning job of x left m (bs ++ below.Left n half ∷ []) b → MayEnd m x left
+  met : (x y : Token) (m k : Mode) (left right : InBlocks) (n g : ℕ) (half theirs : Binding (Memo T)) (bs : List (Below T J)) (b : Base T J) → IsRunning job of x left m (bs ++ below.Left n half ∷ []) b → MayEnd m x left
       → IsRunning {T = T} {J = J} job of y right k [] (base.Right g theirs) → MayEnd k y right → half.of ≡ theirs.of → Met x y m k left right n half bs b
   met x y m k left right n g half theirs bs b r may r2 may2 same =
       let f = finished job of x left m (bs ++ below.Left n half ∷ []) b r may in
@@ -141,19 +141,19 @@ module _ {T J : Type 0} (job : Job) (of : T → Token) where
         second = not_waiting y right may2;
       }
 
-  meets_fork : (x y : Token) (m k : Mode) (left right : InBlocks) (n g : ℕ) (half theirs : Note (Memo T)) (bs : List (Below T J)) (b : Base T J) → IsRunning job of x left m (bs ++ below.Left n half ∷ []) b → MayEnd m x left
+  meets_fork : (x y : Token) (m k : Mode) (left right : InBlocks) (n g : ℕ) (half theirs : Binding (Memo T)) (bs : List (Below T J)) (b : Base T J) → IsRunning job of x left m (bs ++ below.Left n half ∷ []) b → MayEnd m x left
       → IsRunning {T = T} {J = J} job of y right k [] (base.Right g theirs) → MayEnd k y right → half.of ≡ theirs.of → AreOfOneFork x y
   meets_fork x y m k left right n g half theirs bs b r may r2 may2 same =
       let q = met x y m k left right n g half theirs bs b r may r2 may2 same in
       let i = left_of job of x left m bs b n half q.ended in
       record { inner = opened (Beside n) q.ended.start i.outer; outer = i.others; left = i.forks; fork = ap (λ (j : ℕ). Beside j) (sym q.number); right = q.none }
 
-  meets_done : (x y : Token) (m k : Mode) (left right : InBlocks) (n g : ℕ) (half theirs : Note (Memo T)) (bs : List (Below T J)) (b : Base T J) → IsRunning job of x left m (bs ++ below.Left n half ∷ []) b → MayEnd m x left
+  meets_done : (x y : Token) (m k : Mode) (left right : InBlocks) (n g : ℕ) (half theirs : Binding (Memo T)) (bs : List (Below T J)) (b : Base T J) → IsRunning job of x left m (bs ++ below.Left n half ∷ []) b → MayEnd m x left
       → IsRunning {T = T} {J = J} job of y right k [] (base.Right g theirs) → MayEnd k y right → half.of ≡ theirs.of → IsDone x × IsDone y
   meets_done x y m k left right n g half theirs bs b r may r2 may2 same = (met x y m k left right n g half theirs bs b r may r2 may2 same).done
 
   -- unless a strand was stopped what the split parted is merged
-  meets_merge : (x y z : Token) (m k : Mode) (left right : InBlocks) (n g : ℕ) (half theirs : Note (Memo T)) (bs : List (Below T J)) (b : Base T J) → IsRunning job of x left m (bs ++ below.Left n half ∷ []) b → MayEnd m x left
+  meets_merge : (x y z : Token) (m k : Mode) (left right : InBlocks) (n g : ℕ) (half theirs : Binding (Memo T)) (bs : List (Below T J)) (b : Base T J) → IsRunning job of x left m (bs ++ below.Left n half ∷ []) b → MayEnd m x left
       → IsRunning {T = T} {J = J} job of y right k [] (base.Right g theirs) → MayEnd k y right → half.of ≡ theirs.of → z ≡ taken_in x y → IsToMerge job.limits.aborts (mode_of_both m k) z n
   meets_merge x y z m k left right n g half theirs bs b r may r2 may2 same e =
       let q = met x y m k left right n g half theirs bs b r may r2 may2 same in
@@ -171,7 +171,7 @@ module _ {T J : Type 0} (job : Job) (of : T → Token) where
         to_merge mode.Stopped w on there = tt
         to_merge mode.Waits w on there = (on waits_on, there waits_on)
 
-  meets_behind : (x y z u : Token) (m k : Mode) (left right : InBlocks) (n g : ℕ) (half theirs : Note (Memo T)) (bs : List (Below T J)) (b : Base T J) → IsRunning job of x left m (bs ++ below.Left n half ∷ []) b → MayEnd m x left
+  meets_behind : (x y z u : Token) (m k : Mode) (left right : InBlocks) (n g : ℕ) (half theirs : Binding (Memo T)) (bs : List (Below T J)) (b : Base T J) → IsRunning job of x left m (bs ++ below.Left n half ∷ []) b → MayEnd m x left
       → IsRunning {T = T} {J = J} job of y right k [] (base.Right g theirs) → MayEnd k y right → half.of ≡ theirs.of → z ≡ taken_in x y → IsMerged (mode_of_both m k) z u → IsBehind job of (mode_of_both m k) u right left bs b
   meets_behind x y z u m k left right n g half theirs bs b r may r2 may2 same e merged_so =
       let q = met x y m k left right n g half theirs bs b r may r2 may2 same in
@@ -190,20 +190,20 @@ module _ {T J : Type 0} (job : Job) (of : T → Token) where
   pub alone : (y : Token) (right : InBlocks) (k : Mode) (rest : List (Below T J)) (b : Base T J) → rest ≡ [] → IsRunning job of y right k rest b → IsRunning job of y right k [] b
   alone y right k rest b e r = subst (λ (us : List (Below T J)). IsRunning job of y right k us b) e r
 
-  pub met_join : (x y : Token) (m k : Mode) (left right : InBlocks) (n g : ℕ) (half theirs : Note (Memo T)) (bs rest : List (Below T J)) (b : Base T J) → rest ≡ [] → IsRunning job of x left m (bs ++ below.Left n half ∷ []) b → MayEnd m x left
+  pub met_join : (x y : Token) (m k : Mode) (left right : InBlocks) (n g : ℕ) (half theirs : Binding (Memo T)) (bs rest : List (Below T J)) (b : Base T J) → rest ≡ [] → IsRunning job of x left m (bs ++ below.Left n half ∷ []) b → MayEnd m x left
       → IsRunning job of y right k rest (base.Right g theirs) → MayEnd k y right → half.of ≡ theirs.of → AreOfOneFork x y × (IsDone x × IsDone y)
   met_join x y m k left right n g half theirs bs rest b e r may r2 may2 same =
       let s = alone y right k rest (base.Right g theirs) e r2 in
       (meets_fork x y m k left right n g half theirs bs b r may s may2 same, meets_done x y m k left right n g half theirs bs b r may s may2 same)
 
-  pub met_merge : (x y z : Token) (m k how : Mode) (left right : InBlocks) (n g : ℕ) (half theirs : Note (Memo T)) (bs rest : List (Below T J)) (b : Base T J) → how ≡ mode_of_both m k → rest ≡ []
+  pub met_merge : (x y z : Token) (m k how : Mode) (left right : InBlocks) (n g : ℕ) (half theirs : Binding (Memo T)) (bs rest : List (Below T J)) (b : Base T J) → how ≡ mode_of_both m k → rest ≡ []
       → IsRunning job of x left m (bs ++ below.Left n half ∷ []) b → MayEnd m x left → IsRunning job of y right k rest (base.Right g theirs) → MayEnd k y right → half.of ≡ theirs.of → z ≡ taken_in x y
       → IsToMerge job.limits.aborts how z n
   met_merge x y z m k how left right n g half theirs bs rest b is e r may r2 may2 same joined_so =
       subst (λ (q : Mode). IsToMerge job.limits.aborts q z n) (sym is)
       (meets_merge x y z m k left right n g half theirs bs b r may (alone y right k rest (base.Right g theirs) e r2) may2 same joined_so)
 
-  pub met_behind : (x y z u : Token) (m k how : Mode) (left right : InBlocks) (n g : ℕ) (half theirs : Note (Memo T)) (bs rest : List (Below T J)) (b : Base T J) → how ≡ mode_of_both m k → rest ≡ []
+  pub met_behind : (x y z u : Token) (m k how : Mode) (left right : InBlocks) (n g : ℕ) (half theirs : Binding (Memo T)) (bs rest : List (Below T J)) (b : Base T J) → how ≡ mode_of_both m k → rest ≡ []
       → IsRunning job of x left m (bs ++ below.Left n half ∷ []) b → MayEnd m x left → IsRunning job of y right k rest (base.Right g theirs) → MayEnd k y right → half.of ≡ theirs.of → z ≡ taken_in x y
       → IsMerged how z u → IsBehind job of how u right left bs b
   met_behind x y z u m k how left right n g half theirs bs rest b is e r may r2 may2 same joined_so merged_so =
@@ -212,7 +212,7 @@ module _ {T J : Type 0} (job : Job) (of : T → Token) where
 
   -- ## The right one was not started
 
-  pub unstarted_behind : (x y z : Token) (m : Mode) (left right : InBlocks) (n g : ℕ) (half theirs : Note (Memo T)) (bs : List (Below T J)) (b : Base T J) → (m ≡ mode.Goes → ⊥)
+  pub unstarted_behind : (x y z : Token) (m : Mode) (left right : InBlocks) (n g : ℕ) (half theirs : Binding (Memo T)) (bs : List (Below T J)) (b : Base T J) → (m ≡ mode.Goes → ⊥)
       → IsRunning job of x left m (bs ++ below.Left n half ∷ []) b → MayEnd m x left → IsRunning {T = T} {J = J} job of y right mode.Waits [] (base.Right g theirs) → half.of ≡ theirs.of → z ≡ taken_in x y
       → IsBehind job of m z right left bs b
   unstarted_behind x y z m left right n g half theirs bs b dead r may r2 same e =
@@ -224,7 +224,7 @@ module _ {T J : Type 0} (job : Job) (of : T → Token) where
       (joined_behind x y z m mode.Waits left right n half bs b f nothing (phase_behind y) first (λ q. first (sym (both_waits m dead) ∙ q)) (unstarted_leaves job f.run y right (right_begins job of i) u)
       (λ s. goes_unsplit y u.fits.split) (joined_there x y z f.start i.outer i.others n i.forks e))
 
-  pub unstarted_fork : (x y : Token) (m : Mode) (left right : InBlocks) (n g : ℕ) (half theirs : Note (Memo T)) (bs : List (Below T J)) (b : Base T J)
+  pub unstarted_fork : (x y : Token) (m : Mode) (left right : InBlocks) (n g : ℕ) (half theirs : Binding (Memo T)) (bs : List (Below T J)) (b : Base T J)
       → IsRunning job of x left m (bs ++ below.Left n half ∷ []) b → MayEnd m x left → IsRunning {T = T} {J = J} job of y right mode.Waits [] (base.Right g theirs) → half.of ≡ theirs.of → AreOfOneFork x y
   unstarted_fork x y m left right n g half theirs bs b r may r2 same =
       let f = finished job of x left m (bs ++ below.Left n half ∷ []) b r may in
@@ -232,7 +232,7 @@ module _ {T J : Type 0} (job : Job) (of : T → Token) where
       let u = unstarted job of y right g half theirs (right_begins job of i) r2 same i.is_half in
       record { inner = opened (Beside n) f.start i.outer; outer = i.others; left = i.forks; fork = ap (λ (j : ℕ). Beside j) (sym u.fits.fork); right = u.none }
 
-  pub unstarted_done : (x y : Token) (m : Mode) (left right : InBlocks) (n g : ℕ) (half theirs : Note (Memo T)) (bs : List (Below T J)) (b : Base T J)
+  pub unstarted_done : (x y : Token) (m : Mode) (left right : InBlocks) (n g : ℕ) (half theirs : Binding (Memo T)) (bs : List (Below T J)) (b : Base T J)
       → IsRunning job of x left m (bs ++ below.Left n half ∷ []) b → MayEnd m x left → IsRunning {T = T} {J = J} job of y right mode.Waits [] (base.Right g theirs) → half.of ≡ theirs.of → IsDone x × IsDone y
   unstarted_done x y m left right n g half theirs bs b r may r2 same =
       let f = finished job of x left m (bs ++ below.Left n half ∷ []) b r may in

@@ -2,7 +2,7 @@
 use Rattle.std.proofs.Common.{◌≡◌, ℕ, List, [], refl, ap, sym, ◌∙◌, subst, true}
 use Rattle.cw_job.specs.Jobs.{Job}
 use Rattle.cw_job.specs.Room.Strands.{StrandState, strands_of_job}
-use Rattle.cw_pair.specs.declared.view.Note.{Note}
+use Rattle.cw_pair.specs.declared.view.Binding.{Binding}
 use Rattle.cw_log.specs.declared.token.Open.{Open}
 use Rattle.cw_log.specs.declared.token.Token.{Token}
 use Rattle.cw_log.specs.Tokens.{MaySplit, once_split}
@@ -27,7 +27,7 @@ fits_split : (x : Token) (a : Start) (t : Trail StrandState) (cs : Course) → F
 fits_split x a t cs w = record { own = w.own; joined = w.joined; strand = w.strand; place = w.place; around = w.around; falling = w.falling; fork = w.fork; split = refl }
 
 module _ {T J : Type 0} (job : Job) (of : T → Token) where
-  splits_goes : (x : Token) (body : InBlocks) (g : ℕ) (half : Note (Memo T)) → IsRunning {T = T} {J = J} job of x body mode.Waits [] (base.Right g half)
+  splits_goes : (x : Token) (body : InBlocks) (g : ℕ) (half : Binding (Memo T)) → IsRunning {T = T} {J = J} job of x body mode.Waits [] (base.Right g half)
       → IsRunning {T = T} {J = J} job of (once_split x) body mode.Goes [] (base.Right g half)
   splits_goes x body g half r =
       let (lowest_so, over, none) = at_bottom job of (subst IsOutside (sym r.stands.trail) tt) r.below in
@@ -54,7 +54,7 @@ module _ {T J : Type 0} (job : Job) (of : T → Token) where
         };
       }
 
-  pub split_so : (x z : Token) (how : Mode) (body : InBlocks) (bs : List (Below T J)) (b : Base T J) (g : ℕ) (half : Note (Memo T)) → how ≡ mode.Waits → b ≡ base.Right g half → bs ≡ [] → IsRunning job of x body how bs b
+  pub split_so : (x z : Token) (how : Mode) (body : InBlocks) (bs : List (Below T J)) (b : Base T J) (g : ℕ) (half : Binding (Memo T)) → how ≡ mode.Waits → b ≡ base.Right g half → bs ≡ [] → IsRunning job of x body how bs b
       → z ≡ once_split x → IsRunning job of z body mode.Goes bs b
   split_so x z how body bs b g half is from alone r e =
       subst (λ (c : Base T J). IsRunning job of z body mode.Goes bs c) (sym from)
@@ -62,7 +62,7 @@ module _ {T J : Type 0} (job : Job) (of : T → Token) where
       (subst (λ (w : Token). IsRunning {T = T} {J = J} job of w body mode.Goes [] (base.Right g half)) (sym e)
       (splits_goes x body g half (waits_alone job of x body how g half bs alone is (subst (λ (c : Base T J). IsRunning job of x body how bs c) from r)))))
 
-  pub split_there : (x : Token) (how : Mode) (body : InBlocks) (bs : List (Below T J)) (b : Base T J) (g : ℕ) (half : Note (Memo T)) → how ≡ mode.Waits → b ≡ base.Right g half → bs ≡ [] → IsRunning job of x body how bs b → MaySplit x g
+  pub split_there : (x : Token) (how : Mode) (body : InBlocks) (bs : List (Below T J)) (b : Base T J) (g : ℕ) (half : Binding (Memo T)) → how ≡ mode.Waits → b ≡ base.Right g half → bs ≡ [] → IsRunning job of x body how bs b → MaySplit x g
   split_there x how body bs b g half is from alone r0 =
       let r = waits_alone job of x body how g half bs alone is (subst (λ (c : Base T J). IsRunning job of x body how bs c) from r0) in
       let (lowest_so, over, none) = at_bottom job of (subst IsOutside (sym r.stands.trail) tt) r.below in

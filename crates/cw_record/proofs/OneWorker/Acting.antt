@@ -29,9 +29,9 @@ use Rattle.cw_serial.specs.declared.undo.Undo.{Undo}
 use Rattle.cw_serial.specs.InMemory.{AreSince, IsSince, begun_after}
 use Rattle.cw_serial.specs.Wants.{Since, answer_to, memory_after, outputs_after, since_after, given_up, blocks_after}
 use Rattle.cw_serial.proofs.Branches.{Branch, on_left, on_right}
-use Rattle.cw_serial.proofs.Working.{Worker as Working, machine_at, after_act, IsAtWork, reached, acts, own_in, blocks_in}
+use Rattle.cw_serial.proofs.Working.{WorkerState, machine_at, after_act, IsAtWork, reached, acts, own_in, blocks_in}
 use Rattle.cw_serial.proofs.Weights.{weight, weight_falls}
-use Rattle.cw_record.specs.declared.worker.Worker.{Worker}
+use Rattle.cw_record.specs.declared.worker.SoleWorker.{SoleWorker}
 use Rattle.cw_record.specs.Drawn.{added, drawn_after, drawn, entry, noted}
 use Rattle.cw_record.specs.Items.{is_act_kind}
 use Rattle.cw_record.specs.Replay.{IsAct}
@@ -98,14 +98,14 @@ one_kept x u bs all e = by x u.begun all e where
   by _ cs all e = stay cs all e
 
 -- what a want that is done makes of a worker in memory, whose blocks were followed before
-pub record Acted (code followed new : Worker) : Type 0 where
+pub record Acted (code followed new : SoleWorker) : Type 0 where
   pub follows : FollowsBlocks code followed
   pub done : DoesItsWant followed new
   pub strand : (since : List Since) → LooksRight followed since → state_of new.strand ≡ (law_of_worker followed).answer (state_of followed.strand) (answer_to (want_of_worker followed) followed.memory.items since)
 
 module _ (job : Job) (closes : Closes (strands_of_job job)) (there : AccessesThere job) where
   -- after a want, whatever it is
-  abbrev after_by : Want → Working StrandState → Working StrandState
+  abbrev after_by : Want → WorkerState StrandState → WorkerState StrandState
   after_by x w = record w {
     memory = memory_after x w.memory;
     outputs = outputs_after x w.outputs;
@@ -114,7 +114,7 @@ module _ (job : Job) (closes : Closes (strands_of_job job)) (there : AccessesThe
     strand = (strands_of_job job).answer w.strand (answer_to x w.memory w.since);
   }
 
-  module _ (code : Worker) (w : Working StrandState) (r : Runs job code w) where
+  module _ (code : SoleWorker) (w : WorkerState StrandState) (r : Runs job code w) where
     is_wanted : (strands_of_job job).want w.strand ≡ want_of_worker code
     is_wanted = sym (wants_same job code w r)
 
@@ -256,7 +256,7 @@ module _ (job : Job) (closes : Closes (strands_of_job job)) (there : AccessesThe
     draws_after _ e d = absurd (cc d)
 
   -- the worker in memory after a want
-  pub acts_on : (code followed new : Worker) (w : Working StrandState) → Runs job code w → takes_answer (want_of_worker code) ≡ true → Acted code followed new → Runs job new (after_act (strands_of_job job) w)
+  pub acts_on : (code followed new : SoleWorker) (w : WorkerState StrandState) → Runs job code w → takes_answer (want_of_worker code) ≡ true → Acted code followed new → Runs job new (after_act (strands_of_job job) w)
   acts_on code followed new w r d acted =
       let x = want_of_worker code in
       let undo = followed.undo in
@@ -264,9 +264,9 @@ module _ (job : Job) (closes : Closes (strands_of_job job)) (there : AccessesThe
       let done : takes_answer ((strands_of_job job).want w.strand) ≡ true = ap takes_answer e ∙ d in
       let R : Want → Type 0 = λ v. Runs job new (after_by v w) in
       let given = answer_to x code.memory.items w.since in
-      let acts_from : Worker → Type 0 = λ v. DoesItsWant v new in
+      let acts_from : SoleWorker → Type 0 = λ v. DoesItsWant v new in
       let made : DoesItsWant (record code { undo = undo }) new = subst acts_from acted.follows.same acted.done in
-      let S : Worker → Type 0 = λ v. (since : List Since) → LooksRight v since → state_of new.strand ≡ (law_of_worker v).answer (state_of v.strand) (answer_to (want_of_worker v) v.memory.items since) in
+      let S : SoleWorker → Type 0 = λ v. (since : List Since) → LooksRight v since → state_of new.strand ≡ (law_of_worker v).answer (state_of v.strand) (answer_to (want_of_worker v) v.memory.items since) in
       let F : Want → Type 0 = λ v. AreSince undo (memory_after v code.memory.items) (since_after v code.memory.items w.since) in
       let followed_since : F x = acted.follows.blocks.since w.since r.undo in
       let looks : LooksRight (record code { undo = undo }) w.since = λ cancel. subst F cancel followed_since in
@@ -290,7 +290,7 @@ module _ (job : Job) (closes : Closes (strands_of_job job)) (there : AccessesThe
         draws = draws_by (made.drawing w.since looks ∙ ap (λ m. drawn_after x m w.since (drawn code.drawing)) r.memory) made.branches (draws_after code w r x e d);
       })
 
-  pub act_leaves_less : IsDeep (strands_of_job job) → (code followed new : Worker) (w : Working StrandState) → Runs job code w → takes_answer (want_of_worker code) ≡ true → Acted code followed new → left_to_do new < left_to_do code
+  pub act_leaves_less : IsDeep (strands_of_job job) → (code followed new : SoleWorker) (w : WorkerState StrandState) → Runs job code w → takes_answer (want_of_worker code) ≡ true → Acted code followed new → left_to_do new < left_to_do code
   act_leaves_less deep code followed new w r d acted =
       let h = acts_on code followed new w r d acted in
       let s = strands_of_job job in
@@ -300,7 +300,7 @@ module _ (job : Job) (closes : Closes (strands_of_job job)) (there : AccessesThe
       let was : law_of_worker code ≡ s = law_same job code w r in
       let falls : s.depth (s.answer w.strand given) < s.depth w.strand = deep.answer w.strand given (ap takes_answer e ∙ d) in
       let less = weight_falls _ _ _ falls falls in
-      let acts_from : Worker → Type 0 = λ v. DoesItsWant v new in
+      let acts_from : SoleWorker → Type 0 = λ v. DoesItsWant v new in
       let made : DoesItsWant (record code { undo = followed.undo }) new = subst acts_from acted.follows.same acted.done in
       let todo : left_to_do new ≡ weight (s.depth (s.answer w.strand given)) + weights s code.branches = (rw (now, h.strand, made.branches) refl) in
       let before : left_to_do code ≡ weight (s.depth w.strand) + weights s code.branches = (rw (was, r.strand) refl) in
@@ -315,7 +315,7 @@ module _ (job : Job) (closes : Closes (strands_of_job job)) (there : AccessesThe
   first_own t first p c n undo memory [] (x ∷ xs) keeps are all = absurd are
   first_own t first p c n undo memory (b ∷ bs) (x ∷ xs) keeps are all = (b, bs, refl, All-head OfOne b bs all)
 
-  module _ (code : Worker) (w : Working StrandState) (r : Runs job code w) where
+  module _ (code : SoleWorker) (w : WorkerState StrandState) (r : Runs job code w) where
     own_first : (n : ℕ) → w.blocks ≡ suc n → (b : Block) × (rest : List Block) × (code.undo.begun ≡ b ∷ rest) × (b.strand ≡ 0)
     own_first n is =
         let cr = crossings code.branches w.branches in

@@ -6,10 +6,10 @@ use Rattle.cw_strand.specs.declared.want.Want.TheVariants.{Load, Store, Out, Beg
 use Rattle.cw_strand.specs.Strands.{is_over, takes_answer}
 use Rattle.cw_job.specs.Jobs.{Job, job_of_task}
 use Rattle.cw_job.specs.Room.Strands.{state_of, strands_of_job}
-use Rattle.cw_record.specs.declared.worker.Worker.{Worker}
+use Rattle.cw_record.specs.declared.worker.SoleWorker.{SoleWorker}
 use Rattle.cw_record.specs.OneWorker.{want_of_worker}
 
-module _ (code : Worker) {w : Want} (says : (job : Job) → w ≡ (strands_of_job job).want (state_of code.strand)) where
+module _ (code : SoleWorker) {w : Want} (says : (job : Job) → w ≡ (strands_of_job job).want (state_of code.strand)) where
   pub wanted_by : {x : Want} → w ≡ x → want_of_worker code ≡ x
   wanted_by e = sym (says (job_of_task code.task)) ∙ e
 

@@ -18,11 +18,11 @@ use Rattle.cw_serial.specs.MachineOf.{machine_of}
 use Rattle.cw_serial.proofs.Branches.{Branch, on_left, on_right}
 use Rattle.cw_serial.proofs.Weights.{weight, weight_falls, weight_le}
 use Rattle.cw_serial.specs.Wants.{Since}
-use Rattle.cw_serial.proofs.Working.{Worker as Working, machine_at, IsAtWork, after_fork as worker_after_fork, forks_off, fork_stays, none_begun, after_turn, turns_right, turn_stays, after_join as worker_after_join, joins_up, join_stays}
+use Rattle.cw_serial.proofs.Working.{WorkerState, machine_at, IsAtWork, after_fork as worker_after_fork, forks_off, fork_stays, none_begun, after_turn, turns_right, turn_stays, after_join as worker_after_join, joins_up, join_stays}
 use Rattle.cw_record.specs.declared.items.OrderItem.{OrderItem}
 use Rattle.cw_record.specs.declared.worker.Branch.{Branch as Held}
 use Rattle.cw_record.specs.declared.worker.Branch.TheVariants.{Left, Right}
-use Rattle.cw_record.specs.declared.worker.Worker.{Worker}
+use Rattle.cw_record.specs.declared.worker.SoleWorker.{SoleWorker}
 use Rattle.cw_record.specs.Drawn.{added, after_fork, after_join, after_start, drawn, added_fork}
 use Rattle.cw_record.specs.OneWorker.{SwitchesStrand, WaitsOnLeft, law_of_worker, unstarted, want_of_worker}
 use Rattle.cw_record.proofs.OneWorker.Building.{IsBuilt, open_items}
@@ -47,7 +47,7 @@ use Rattle.cw_record.proofs.OneWorker.Stamped.{stamped_strand, stamped_forked}
 
 module _ (job : Job) where
   -- the worker in memory, from what was drawn
-  runs_from : (code new : Worker) (w u : Working StrandState) → Runs job code w → SwitchesStrand code new → u.memory ≡ w.memory → u.outputs ≡ w.outputs → u.since ≡ w.since → IsAtWork (strands_of_job job) u → state_of new.strand ≡ u.strand
+  runs_from : (code new : SoleWorker) (w u : WorkerState StrandState) → Runs job code w → SwitchesStrand code new → u.memory ≡ w.memory → u.outputs ≡ w.outputs → u.since ≡ w.since → IsAtWork (strands_of_job job) u → state_of new.strand ≡ u.strand
       → Draws job (drawn new.drawing) new.branches u → Runs job new u
   runs_from code new w u r stays memory outputs since work strand draws = record {
     job_is = ap job_of_task stays.task ∙ r.job_is;
@@ -74,7 +74,7 @@ module _ (job : Job) where
   module _ (deep : IsDeep (strands_of_job job)) (closes : Closes (strands_of_job job)) where
     -- ## A fork
 
-    fork_drawn : (code : Worker) (w : Working StrandState) (r : Runs job code w) → (f : (strands_of_job job).want w.strand ≡ want.Fork) → (right : Written) → state_of right ≡ (strands_of_job job).right w.strand
+    fork_drawn : (code : SoleWorker) (w : WorkerState StrandState) (r : Runs job code w) → (f : (strands_of_job job).want w.strand ≡ want.Fork) → (right : Written) → state_of right ≡ (strands_of_job job).right w.strand
         → Draws job (record (after_fork (drawn code.drawing)) { place = suc (length code.drawing.tree) }) (Left (length code.drawing.tree) right ∷ code.branches) (worker_after_fork (strands_of_job job) w)
     fork_drawn code w r f right stands =
         let t = code.drawing.tree in
@@ -106,7 +106,7 @@ module _ (job : Job) where
     forked_branches old (Left f right ∷ rest) n state h = (right, ap (λ g. Left g right ∷ rest) h.0 ∙ ap (λ xs. Left n right ∷ xs) h.1, h.2)
     forked_branches old _ n state h = absurd h
 
-    fork_leaves_less : (code new : Worker) (w : Working StrandState) → Runs job code w → SwitchesStrand code new → (strands_of_job job).want w.strand ≡ want.Fork → (right : Written) (n : ℕ) → new.branches ≡ Left n right ∷ code.branches
+    fork_leaves_less : (code new : SoleWorker) (w : WorkerState StrandState) → Runs job code w → SwitchesStrand code new → (strands_of_job job).want w.strand ≡ want.Fork → (right : Written) (n : ℕ) → new.branches ≡ Left n right ∷ code.branches
         → state_of new.strand ≡ (strands_of_job job).left w.strand → state_of right ≡ (strands_of_job job).right w.strand → left_to_do new < left_to_do code
     fork_leaves_less code new w r stays f right n is left goes =
         let s = strands_of_job job in
@@ -117,7 +117,7 @@ module _ (job : Job) where
         let was : left_to_do code ≡ weight (s.depth w.strand) + weights s code.branches = ap (λ l. weight (l.depth (state_of code.strand)) + weights l code.branches) same ∙ ap (λ a. weight (s.depth a) + weights s code.branches) r.strand in
         omega arith
 
-    pub forks_on : (code new : Worker) (w : Working StrandState) (r : Runs job code w) → SwitchesStrand code new → want_of_worker code ≡ want.Fork → drawn new.drawing ≡ after_fork (drawn code.drawing) → state_of new.strand ≡ (law_of_worker code).left (state_of code.strand)
+    pub forks_on : (code new : SoleWorker) (w : WorkerState StrandState) (r : Runs job code w) → SwitchesStrand code new → want_of_worker code ≡ want.Fork → drawn new.drawing ≡ after_fork (drawn code.drawing) → state_of new.strand ≡ (law_of_worker code).left (state_of code.strand)
         → WaitsOnLeft code.branches new.branches (length code.drawing.tree) ((law_of_worker code).right (state_of code.strand)) → Runs job new (worker_after_fork (strands_of_job job) w) × (left_to_do new < left_to_do code)
     forks_on code new w r stays f drawing left right =
         let s = strands_of_job job in
@@ -133,21 +133,21 @@ module _ (job : Job) where
 
     -- ## The end of a strand
 
-    module _ (code new : Worker) (memory outputs : List ℤ) (since : List Since) (c : List (Branch StrandState)) (k n m b : ℕ) (a : StrandState) (over : is_over (want_of_worker code) ≡ true) (stays : SwitchesStrand code new) (f : ℕ) (rest : List Held) where
-      is_at_end : (w : Working StrandState) → Runs job code w → is_over ((strands_of_job job).want w.strand) ≡ true
+    module _ (code new : SoleWorker) (memory outputs : List ℤ) (since : List Since) (c : List (Branch StrandState)) (k n m b : ℕ) (a : StrandState) (over : is_over (want_of_worker code) ≡ true) (stays : SwitchesStrand code new) (f : ℕ) (rest : List Held) where
+      is_at_end : (w : WorkerState StrandState) → Runs job code w → is_over ((strands_of_job job).want w.strand) ≡ true
       is_at_end w r = ap is_over (sym (wants_same job code w r)) ∙ over
 
-      now_law : (w : Working StrandState) → Runs job code w → law_of_worker new ≡ strands_of_job job
+      now_law : (w : WorkerState StrandState) → Runs job code w → law_of_worker new ≡ strands_of_job job
       now_law w r = ap (λ i. strands_of_job (job_of_task i)) stays.task ∙ law_same job code w r
 
       pub turns_on : (right : Written) (r : StrandState) → code.branches ≡ Left f right ∷ rest
-          → Runs job code (let w : Working StrandState = record { memory = memory; outputs = outputs; branches = on_left k n r ∷ c; forks = m; blocks = b; since = since; strand = a } in w)
+          → Runs job code (let w : WorkerState StrandState = record { memory = memory; outputs = outputs; branches = on_left k n r ∷ c; forks = m; blocks = b; since = since; strand = a } in w)
           → drawn new.drawing ≡ after_start f (drawn code.drawing) → new.strand ≡ right → new.branches ≡ Right f code.strand ∷ rest
-          → ((w : Working StrandState) × Runs job new w) × (left_to_do new < left_to_do code)
+          → ((w : WorkerState StrandState) × Runs job new w) × (left_to_do new < left_to_do code)
       turns_on right r was h drawing strand branches =
           let t = code.drawing.tree in
           let at = code.drawing.place in
-          let x : Working StrandState = record { memory = memory; outputs = outputs; branches = on_left k n r ∷ c; forks = m; blocks = b; since = since; strand = a } in
+          let x : WorkerState StrandState = record { memory = memory; outputs = outputs; branches = on_left k n r ∷ c; forks = m; blocks = b; since = since; strand = a } in
           let o = is_at_end x h in
           let u = after_turn (strands_of_job job) closes memory outputs since c k n m b a o r in
           let cross : Crossing = record { node = f; turn = record { fork = k; right = false }; blocks = n } in
@@ -200,14 +200,14 @@ module _ (job : Job) where
           )
 
       pub joins_on : (left : Written) (o : ℕ) (l : StrandState) → code.branches ≡ Right f left ∷ rest
-          → Runs job code (let w : Working StrandState = record { memory = memory; outputs = outputs; branches = on_right k n o l ∷ c; forks = m; blocks = b; since = since; strand = a } in w)
+          → Runs job code (let w : WorkerState StrandState = record { memory = memory; outputs = outputs; branches = on_right k n o l ∷ c; forks = m; blocks = b; since = since; strand = a } in w)
           → drawn new.drawing ≡ after_join f (drawn code.drawing) → new.branches ≡ rest
           → state_of new.strand ≡ (law_of_worker code).joined (state_of code.strand) (state_of left)
-          → ((w : Working StrandState) × Runs job new w) × (left_to_do new < left_to_do code)
+          → ((w : WorkerState StrandState) × Runs job new w) × (left_to_do new < left_to_do code)
       joins_on left o l was h drawing branches strand =
           let t = code.drawing.tree in
           let at = code.drawing.place in
-          let x : Working StrandState = record { memory = memory; outputs = outputs; branches = on_right k n o l ∷ c; forks = m; blocks = b; since = since; strand = a } in
+          let x : WorkerState StrandState = record { memory = memory; outputs = outputs; branches = on_right k n o l ∷ c; forks = m; blocks = b; since = since; strand = a } in
           let v = is_at_end x h in
           let u = worker_after_join (strands_of_job job) closes memory outputs since c k n m b a v l in
           let cross : Crossing = record { node = f; turn = record { fork = k; right = true }; blocks = n } in

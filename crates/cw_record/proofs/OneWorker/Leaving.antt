@@ -33,11 +33,11 @@ use Rattle.cw_serial.specs.declared.undo.Begun.{Begun as Block}
 use Rattle.cw_serial.specs.InMemory.{IsSince}
 use Rattle.cw_serial.specs.Wants.{Since}
 use Rattle.cw_strand.specs.Programs.{IsCompiled}
-use Rattle.cw_serial.proofs.Working.{Worker as Working, machine_at, starts_work, none_begun, at_here, leftmost_here}
+use Rattle.cw_serial.proofs.Working.{WorkerState, machine_at, starts_work, none_begun, at_here, leftmost_here}
 use Rattle.cw_record.specs.declared.items.OrderItem.{OrderItem}
 use Rattle.cw_record.specs.declared.record_end.RecordEnd.TheVariants.{Finished, Fault}
 use Rattle.cw_record.specs.declared.worker.Branch.{Branch as Held}
-use Rattle.cw_record.specs.declared.worker.Worker.{Worker}
+use Rattle.cw_record.specs.declared.worker.SoleWorker.{SoleWorker}
 use Rattle.cw_record.specs.Drawn.{blank, drawn}
 use Rattle.cw_record.specs.Items.{items}
 use Rattle.cw_record.specs.Order.{node_of}
@@ -80,13 +80,13 @@ all_empty (suc n) (suc c) es h = all_empty n c es h
 
 module _ (job : Job) where
   -- the worker at the first want of main
-  pub runs_first : (code : Worker) → IsCompiled job.program → job_of_task code.task ≡ job → code.memory.items ≡ first_memory job.program.cells → code.outputs.items ≡ [] → code.undo.begun ≡ [] → drawn code.drawing ≡ blank (length code.memory.items)
-      → state_of code.strand ≡ (law_of_worker code).start → code.branches ≡ [] → (w : Working StrandState) × Runs job code w
+  pub runs_first : (code : SoleWorker) → IsCompiled job.program → job_of_task code.task ≡ job → code.memory.items ≡ first_memory job.program.cells → code.outputs.items ≡ [] → code.undo.begun ≡ [] → drawn code.drawing ≡ blank (length code.memory.items)
+      → state_of code.strand ≡ (law_of_worker code).start → code.branches ≡ [] → (w : WorkerState StrandState) × Runs job code w
   runs_first code compiled is memory outputs begun drawing strand branches =
       let first = first_memory job.program.cells in
       let root = fresh_node 0 Strand 0 ∷ [] in
       let empty = replicate (length first) [] in
-      let w : Working StrandState = record { memory = first; outputs = []; branches = []; forks = 0; blocks = 0; since = []; strand = (strands_of_job job).start } in
+      let w : WorkerState StrandState = record { memory = first; outputs = []; branches = []; forks = 0; blocks = 0; since = []; strand = (strands_of_job job).start } in
       let I : List OrderItem → Type 0 = λ is. Plays (strands_of_job job) root (machine_of job) is (machine_at (strands_of_job job) w) in
       let draws : Draws job (blank (length first)) [] w = record {
         built = built_root;
@@ -123,12 +123,12 @@ module _ (job : Job) where
     no_branches [] (y ∷ c) e h = absurd h
     no_branches (x ∷ xs) c e h = absurd (cc e)
 
-    pub finished_run : (code : Worker) (memory outputs : List ℤ) (branches : List (Branch StrandState)) (forks blocks : ℕ) (since : List Since) (a : StrandState)
-        → Runs job code (let w : Working StrandState = record { memory = memory; outputs = outputs; branches = branches; forks = forks; blocks = blocks; since = since; strand = a } in w)
+    pub finished_run : (code : SoleWorker) (memory outputs : List ℤ) (branches : List (Branch StrandState)) (forks blocks : ℕ) (since : List Since) (a : StrandState)
+        → Runs job code (let w : WorkerState StrandState = record { memory = memory; outputs = outputs; branches = branches; forks = forks; blocks = blocks; since = since; strand = a } in w)
         → is_over (want_of_worker code) ≡ true → code.branches ≡ [] → IsWorkerRun job code.drawing.tree code.drawing.journals.items (Finished code.memory.items code.outputs.items)
     finished_run code memory outputs branches forks blocks since a r over none =
         let t = code.drawing.tree in
-        let w : Working StrandState = record { memory = memory; outputs = outputs; branches = branches; forks = forks; blocks = blocks; since = since; strand = a } in
+        let w : WorkerState StrandState = record { memory = memory; outputs = outputs; branches = branches; forks = forks; blocks = blocks; since = since; strand = a } in
         let o : is_over ((strands_of_job job).want a) ≡ true = ap is_over (sym (wants_same job code w r)) ∙ over in
         let empty : branches ≡ [] = no_branches code.branches branches none r.draws.branches in
         let zeroed : blocks ≡ 0 = none_begun (strands_of_job job) closes w r.work o in
@@ -203,7 +203,7 @@ module _ (job : Job) where
         (cancels_strands u first fs (rooted_more t x rooted low) (same_more t none f Strand 0).none_too (All-weaker (λ g. g < length t) (λ g. g < length u) (λ g less. omega (arith, length_more t x)) fs (All-tail (λ g. g < length t) f fs there))
         (cancels_plain t rooted none first h f Strand 0 (λ c. refl) (λ back e. absurd (cc e))))
 
-    pub fault_run : (code : Worker) (w : Working StrandState) → Runs job code w → (kind : FaultKind) → want_of_worker code ≡ want.Fault kind → (t : List Node) → t ≡ with_strands code.drawing.tree (unstarted code.branches)
+    pub fault_run : (code : SoleWorker) (w : WorkerState StrandState) → Runs job code w → (kind : FaultKind) → want_of_worker code ≡ want.Fault kind → (t : List Node) → t ≡ with_strands code.drawing.tree (unstarted code.branches)
         → IsWorkerRun job t code.drawing.journals.items (Fault (strand_of code.drawing.tree code.drawing.place) kind)
     fault_run code w r kind is t grown =
         let old = code.drawing.tree in

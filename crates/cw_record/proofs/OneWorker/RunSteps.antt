@@ -16,7 +16,7 @@ use Rattle.cw_tree.proofs.Walks.Ancestors.{ancestor_self}
 use Rattle.cw_serial.specs.StrandTree.{at}
 use Rattle.cw_serial.specs.Machine.{Machine, pick}
 use Rattle.cw_serial.proofs.Branches.{way}
-use Rattle.cw_serial.proofs.Working.{Worker, machine_at, after_act, IsAtWork, stands_by, at_here, leftmost_here, act_is_pick}
+use Rattle.cw_serial.proofs.Working.{WorkerState, machine_at, after_act, IsAtWork, stands_by, at_here, leftmost_here, act_is_pick}
 use Rattle.cw_record.specs.declared.items.OrderItem.{OrderItem}
 use Rattle.cw_record.specs.declared.items.OrderItem.TheVariants.{Begins, Does, Ends}
 use Rattle.cw_record.specs.Items.{is_act_kind}
@@ -35,7 +35,7 @@ act_no_strand _ e = refl
 
 module _ {A : Type 0} (s : Strands A) (closes : Closes s) where
   -- one item more, at a pick of the strand that is run
-  one_more : (t u : List Node) (m : Machine A) (w : Worker A) (is : List OrderItem) (i : OrderItem) → IsAtWork s w → takes_answer (s.want w.strand) ≡ true → SameDoers t u → Plays s t m is (machine_at s w)
+  one_more : (t u : List Node) (m : Machine A) (w : WorkerState A) (is : List OrderItem) (i : OrderItem) → IsAtWork s w → takes_answer (s.want w.strand) ≡ true → SameDoers t u → Plays s t m is (machine_at s w)
       → node_of i < length u → doer u i ≡ way w.branches → IsItemDone u (machine_at s w) (s.want w.strand) i → Plays s u m (is ++ i ∷ []) (machine_at s (after_act s w))
   one_more t u m w is i h d same played there name act =
       let (o, f) = stands_by s (s.want w.strand) d in
@@ -45,7 +45,7 @@ module _ {A : Type 0} (s : Strands A) (closes : Closes s) where
       act
       (ap (pick s (machine_at s w)) name ∙ act_is_pick s closes w h d)
 
-  module _ (t : List Node) (p clock : ℕ) (built : IsBuilt t p clock) (m : Machine A) (w : Worker A) (h : IsAtWork s w) (d : takes_answer (s.want w.strand) ≡ true)
+  module _ (t : List Node) (p clock : ℕ) (built : IsBuilt t p clock) (m : Machine A) (w : WorkerState A) (h : IsAtWork s w) (d : takes_answer (s.want w.strand) ≡ true)
       (named : name_of t (strand_of t p) ≡ way w.branches) (played : Plays s t m (open_items t p) (machine_at s w)) where
     -- the node is of the strand at the place
     new_doer : (kind : Kind) (st : ℕ) (i : OrderItem) → node_of i ≡ length t → is_strand_kind kind ≡ false → doer (added t p kind st) i ≡ way w.branches

@@ -14,10 +14,10 @@ use Rattle.cw_job.specs.Room.Strands.{StrandState, state_of, strands_of_job}
 use Rattle.cw_serial.specs.InMemory.{AreSince}
 use Rattle.cw_serial.specs.MachineOf.{machine_of}
 use Rattle.cw_serial.proofs.Branches.{Branch, on_left, on_right, turn_at, blocks_at, way}
-use Rattle.cw_serial.proofs.Working.{Worker as Working, machine_at, IsAtWork}
+use Rattle.cw_serial.proofs.Working.{WorkerState, machine_at, IsAtWork}
 use Rattle.cw_record.specs.declared.worker.Branch.{Branch as Held}
 use Rattle.cw_record.specs.declared.worker.Branch.TheVariants.{Left, Right}
-use Rattle.cw_record.specs.declared.worker.Worker.{Worker}
+use Rattle.cw_record.specs.declared.worker.SoleWorker.{SoleWorker}
 use Rattle.cw_record.specs.Drawn.{Drawn, drawn}
 use Rattle.cw_record.specs.OneWorker.{law_of_worker, unstarted, want_of_worker}
 use Rattle.cw_record.proofs.OneWorker.Building.{IsBuilt, open_items}
@@ -58,11 +58,11 @@ weights s [] = 0
 weights s (Left f right ∷ xs) = weight (s.depth (state_of right)) + 2 + weights s xs
 weights s (Right f left ∷ xs) = 1 + weights s xs
 
-abbrev pub left_to_do : Worker → ℕ
+abbrev pub left_to_do : SoleWorker → ℕ
 left_to_do w = weight ((law_of_worker w).depth (state_of w.strand)) + weights (law_of_worker w) w.branches
 
 -- What is drawn is this run so far, where the strands on the way down are these.
-pub record Draws (job : Job) (d : Drawn) (xs : List Held) (w : Working StrandState) : Type 0 where
+pub record Draws (job : Job) (d : Drawn) (xs : List Held) (w : WorkerState StrandState) : Type 0 where
   pub built : IsBuilt d.tree d.place d.clock
   pub shape : IsShaped d.tree (unstarted xs)
   pub stamps : AreStamps d.tree
@@ -77,14 +77,14 @@ pub record Draws (job : Job) (d : Drawn) (xs : List Held) (w : Working StrandSta
   pub played : Plays (strands_of_job job) d.tree (machine_of job) (open_items d.tree d.place) (machine_at (strands_of_job job) w)
 
 -- the same, by equations
-pub draws_by : {job : Job} {d e : Drawn} {xs ys : List Held} {w : Working StrandState} → e ≡ d → ys ≡ xs → Draws job d xs w → Draws job e ys w
+pub draws_by : {job : Job} {d e : Drawn} {xs ys : List Held} {w : WorkerState StrandState} → e ≡ d → ys ≡ xs → Draws job d xs w → Draws job e ys w
 draws_by {job} {d} {e} {xs} {ys} {w} drawing branches h =
     let D : Drawn → Type 0 = λ x. Draws job x xs w in
     let B : List Held → Type 0 = λ x. Draws job e x w in
     subst B (sym branches) (subst D (sym drawing) h)
 
 -- The worker in memory is this one, and what it drew is the run so far.
-pub record Runs (job : Job) (code : Worker) (w : Working StrandState) : Type 0 where
+pub record Runs (job : Job) (code : SoleWorker) (w : WorkerState StrandState) : Type 0 where
   pub job_is : job_of_task code.task ≡ job
   pub memory : code.memory.items ≡ w.memory
   pub outputs : code.outputs.items ≡ w.outputs
@@ -96,10 +96,10 @@ pub record Runs (job : Job) (code : Worker) (w : Working StrandState) : Type 0 w
   pub draws : Draws job (drawn code.drawing) code.branches w
 
 -- the strand that is run has the name of the way to it
-pub runs_name : (job : Job) (code : Worker) (w : Working StrandState) → Runs job code w → name_of code.drawing.tree (strand_of code.drawing.tree code.drawing.place) ≡ way w.branches
+pub runs_name : (job : Job) (code : SoleWorker) (w : WorkerState StrandState) → Runs job code w → name_of code.drawing.tree (strand_of code.drawing.tree code.drawing.place) ≡ way w.branches
 runs_name job code w r = (strand_down code.drawing.tree code.drawing.place code.drawing.clock r.draws.built (crossings code.branches w.branches) w.blocks w.forks r.draws.place).0 ∙ way_is code.branches w.branches r.draws.branches
 
-module _ (job : Job) (code : Worker) (w : Working StrandState) (r : Runs job code w) where
+module _ (job : Job) (code : SoleWorker) (w : WorkerState StrandState) (r : Runs job code w) where
   -- the strand in memory wants what this one wants
   pub wants_same : want_of_worker code ≡ (strands_of_job job).want w.strand
   wants_same = ap (λ j. (strands_of_job j).want (state_of code.strand)) r.job_is ∙ ap (strands_of_job job).want r.strand

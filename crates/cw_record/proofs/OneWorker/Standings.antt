@@ -7,22 +7,22 @@ use Rattle.cw_job.specs.Room.Strands.{IsOf}
 use Rattle.cw_record.specs.declared.worker.Branch.{Branch}
 use Rattle.cw_record.specs.declared.worker.Branch.TheVariants.{Left, Right}
 use Rattle.cw_job.specs.declared.task.Task.{Task}
-use Rattle.cw_record.specs.declared.worker.Worker.{Worker}
+use Rattle.cw_record.specs.declared.worker.SoleWorker.{SoleWorker}
 use Rattle.cw_record.specs.OneWorker.{DoesItsWant, FollowsBlocks, SwitchesStrand, AllStand, AllBranchesStand, BranchStands}
 
 -- what stands for one task stands for the same one
-stand_for : (t : Task) (new : Worker) → new.task ≡ t → IsOf t.program.now new.strand → AllBranchesStand t.program.now new.branches → AllStand new
+stand_for : (t : Task) (new : SoleWorker) → new.task ≡ t → IsOf t.program.now new.strand → AllBranchesStand t.program.now new.branches → AllStand new
 stand_for t new same strand branches =
     let both = subst (λ (u : Task). IsOf u.program.now new.strand × AllBranchesStand u.program.now new.branches) (sym same) (strand, branches) in
     record { strand = both.0; branches = both.1 }
 
-module _ (code : Worker) (all : AllStand code) where
+module _ (code : SoleWorker) (all : AllStand code) where
   abbrev program : Program
   program = code.task.program.now
 
-  pub act_stands : (followed new : Worker) → FollowsBlocks code followed → DoesItsWant followed new → IsOf followed.task.program.now new.strand → AllStand new
+  pub act_stands : (followed new : SoleWorker) → FollowsBlocks code followed → DoesItsWant followed new → IsOf followed.task.program.now new.strand → AllStand new
   act_stands followed new follows acts is =
-      let from : Worker → Type 0 = λ v. DoesItsWant v new × IsOf v.task.program.now new.strand in
+      let from : SoleWorker → Type 0 = λ v. DoesItsWant v new × IsOf v.task.program.now new.strand in
       let (made, stands) = subst from follows.same (acts, is) in
       stand_for code.task new made.task stands (subst (AllBranchesStand program) (sym made.branches) all.branches)
 
@@ -33,11 +33,11 @@ module _ (code : Worker) (all : AllStand code) where
     pub taken_stands : {y : Branch} → x ≡ y → BranchStands program y
     taken_stands is = subst (BranchStands program) is (All-head (BranchStands program) x rest both)
 
-    pub turn_stands : {f : ℕ} {right : Standing} {new : Worker} → SwitchesStrand (record code { branches = rest }) new → x ≡ Left f right → new.strand ≡ right
+    pub turn_stands : {f : ℕ} {right : Standing} {new : SoleWorker} → SwitchesStrand (record code { branches = rest }) new → x ≡ Left f right → new.strand ≡ right
         → new.branches ≡ Right f code.strand ∷ rest → AllStand new
     turn_stands {f = f} {right = right} {new = new} keeps is strand branches = stand_for code.task new keeps.task
         (subst (IsOf program) (sym strand) (taken_stands is))
         (subst (AllBranchesStand program) (sym branches) (All-cons (BranchStands program) (Right f code.strand) rest all.strand (All-tail (BranchStands program) x rest both)))
 
-    pub join_stands : {new : Worker} → SwitchesStrand (record code { branches = rest }) new → IsOf program new.strand → new.branches ≡ rest → AllStand new
+    pub join_stands : {new : SoleWorker} → SwitchesStrand (record code { branches = rest }) new → IsOf program new.strand → new.branches ≡ rest → AllStand new
     join_stands {new = new} keeps strand branches = stand_for code.task new keeps.task strand (subst (AllBranchesStand program) (sym branches) (All-tail (BranchStands program) x rest both))

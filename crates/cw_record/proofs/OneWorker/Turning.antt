@@ -17,10 +17,10 @@ use Rattle.cw_job.specs.Room.Strands.{StrandState, IsOf, state_of, strands_of_jo
 use Rattle.cw_serial.proofs.Branches.{Branch, on_left, on_right}
 use Rattle.cw_job.proofs.Room.Lawful.{deep_of}
 use Rattle.cw_serial.specs.InMemory.{begun_after}
-use Rattle.cw_serial.proofs.Working.{Worker as Working, own_in, reached, after_act, after_fork as worker_after_fork}
+use Rattle.cw_serial.proofs.Working.{WorkerState, own_in, reached, after_act, after_fork as worker_after_fork}
 use Rattle.cw_record.specs.declared.worker.Branch.{Branch as Held}
 use Rattle.cw_record.specs.declared.worker.Branch.TheVariants.{Left, Right}
-use Rattle.cw_record.specs.declared.worker.Worker.{Worker}
+use Rattle.cw_record.specs.declared.worker.SoleWorker.{SoleWorker}
 use Rattle.cw_record.specs.declared.worker.Run.{Run}
 use Rattle.cw_record.specs.declared.drawing.Drawing.{Drawing}
 use Rattle.cw_record.specs.declared.record_end.RecordEnd.{RecordEnd}
@@ -38,20 +38,20 @@ use Rattle.cw_record.proofs.OneWorker.Leaving.{finished_run, fault_run}
 use Rattle.cw_record.proofs.OneWorker.Running.{HoldsBranches, crossings, fork_at, Runs, wants_same, left_to_do}
 
 -- the job is still run, and less of it is left
-abbrev pub StillRuns : Job → (code new : Worker) → Type 0
-StillRuns job code new = ((v : Working StrandState) × Runs job new v) × (left_to_do new < left_to_do code)
+abbrev pub StillRuns : Job → (code new : SoleWorker) → Type 0
+StillRuns job code new = ((v : WorkerState StrandState) × Runs job new v) × (left_to_do new < left_to_do code)
 
 -- a worker that can do what its strand wants, behind the blocks that were followed
-pub record IsReady (w : Worker) : Type 0 where
+pub record IsReady (w : SoleWorker) : Type 0 where
   pub there : w.drawing.place < length w.drawing.tree
   pub answered : takes_answer (want_of_worker w) ≡ true
   pub block : want_of_worker w ≡ want.End → IsTrue (is_block w.drawing.tree w.drawing.place)
   pub stands : IsOf w.task.program.now w.strand
 
-module _ {job : Job} {code : Worker} {w : Working StrandState} (r : Runs job code w) where
+module _ {job : Job} {code : SoleWorker} {w : WorkerState StrandState} (r : Runs job code w) where
   -- the same with other branches
   abbrev RunsWith : List (Branch StrandState) → Type 0
-  RunsWith bs = Runs job code (let v : Working StrandState = record { memory = w.memory; outputs = w.outputs; branches = bs; forks = w.forks; blocks = w.blocks; since = w.since; strand = w.strand } in v)
+  RunsWith bs = Runs job code (let v : WorkerState StrandState = record { memory = w.memory; outputs = w.outputs; branches = bs; forks = w.forks; blocks = w.blocks; since = w.since; strand = w.strand } in v)
 
   held : (x : Held) (rest : List Held) → code.branches ≡ x ∷ rest → HoldsBranches (x ∷ rest) w.branches
   held x rest was = let P : List Held → Type 0 = λ xs. HoldsBranches xs w.branches in subst P was r.draws.branches
@@ -84,18 +84,18 @@ module _ {job : Job} {code : Worker} {w : Working StrandState} (r : Runs job cod
 
     -- ## A step
 
-    pub act_run : (followed new : Worker) → takes_answer (want_of_worker code) ≡ true → Acted code followed new → StillRuns job code new
+    pub act_run : (followed new : SoleWorker) → takes_answer (want_of_worker code) ≡ true → Acted code followed new → StillRuns job code new
     act_run followed new answered acted =
         ((after_act (strands_of_job job) w, acts_on job closes there code followed new w r answered acted), act_leaves_less job closes there deep code followed new w r answered acted)
 
-    pub fork_run : {new : Worker} → SwitchesStrand code new → want_of_worker code ≡ want.Fork → drawn new.drawing ≡ after_fork (drawn code.drawing) → state_of new.strand ≡ (law_of_worker code).left (state_of code.strand)
+    pub fork_run : {new : SoleWorker} → SwitchesStrand code new → want_of_worker code ≡ want.Fork → drawn new.drawing ≡ after_fork (drawn code.drawing) → state_of new.strand ≡ (law_of_worker code).left (state_of code.strand)
         → WaitsOnLeft code.branches new.branches (length code.drawing.tree) ((law_of_worker code).right (state_of code.strand)) → StillRuns job code new
     fork_run {new} stays wanted drawing left right =
         let (runs, less) = forks_on job deep closes code new w r stays wanted drawing left right in
         ((worker_after_fork (strands_of_job job) w, runs), less)
 
     -- from the end of a strand to the branch that was taken
-    module _ {x : Held} {rest : List Held} (taken : code.branches ≡ x ∷ rest) {new : Worker} (over : is_over (want_of_worker code) ≡ true) (keeps : SwitchesStrand (record code { branches = rest }) new) where
+    module _ {x : Held} {rest : List Held} (taken : code.branches ≡ x ∷ rest) {new : SoleWorker} (over : is_over (want_of_worker code) ≡ true) (keeps : SwitchesStrand (record code { branches = rest }) new) where
       stays : SwitchesStrand code new
       stays = record { task = keeps.task; memory = keeps.memory; outputs = keeps.outputs; undo = keeps.undo }
 
@@ -127,7 +127,7 @@ module _ {job : Job} {code : Worker} {w : Working StrandState} (r : Runs job cod
         way_block code.drawing.tree code.drawing.place (crossings code.branches w.branches) n w.forks (subst P is r.draws.place)
 
     -- behind the blocks that were followed it is as it was
-    pub act_ready : (followed : Worker) → FollowsBlocks code followed → takes_answer (want_of_worker code) ≡ true → IsOf code.task.program.now code.strand → IsReady followed
+    pub act_ready : (followed : SoleWorker) → FollowsBlocks code followed → takes_answer (want_of_worker code) ≡ true → IsOf code.task.program.now code.strand → IsReady followed
     act_ready followed follows answered stands =
         let old : IsReady (record code { undo = followed.undo }) = record { there = r.draws.built.there; answered = answered; block = end_at_block; stands = stands } in
         subst IsReady (sym follows.same) old

@@ -29,7 +29,7 @@ use Rattle.cw_sim.specs.Inside.{goes_back, HasInside}
 use Rattle.cw_sim.specs.InMemory.{Seen, law_of, has_body, IsBody, StandsFor, Comes, MayStep, MayFork}
 use Rattle.cw_sim.specs.ThingsInMemory.{thing_at, Puts}
 use Rattle.cw_sim.specs.WorkersInMemory.{worker_of, workers_of}
-use Rattle.cw_sim.specs.declared.worker.Worker.{Worker as WorkerInMemory}
+use Rattle.cw_sim.specs.declared.worker.WorkerInMemory.{WorkerInMemory}
 use Rattle.cw_sim.specs.declared.moves.Driver.{Driver}
 use Rattle.cw_sim.proofs.Laws.Fits.{fork_fits}
 use Rattle.cw_sim.proofs.InMemory.Sides.{body_stands, stands_body}

@@ -26,7 +26,7 @@ use Rattle.cw_sim.specs.Inside.{HasOneOpenFork as IsThere, goes_back}
 use Rattle.cw_sim.specs.InMemory.{Seen, law_of, IsBody, StandsFor, Comes, MayMove, Wants, MayStep, MayDo, MayRoll, MayFork, MayAct, MayDie, MayFinish}
 use Rattle.cw_sim.specs.ThingsInMemory.{thing_at}
 use Rattle.cw_sim.specs.WorkersInMemory.{worker_of}
-use Rattle.cw_sim.specs.declared.worker.Worker.{Worker as WorkerInMemory}
+use Rattle.cw_sim.specs.declared.worker.WorkerInMemory.{WorkerInMemory}
 use Rattle.cw_sim.specs.declared.moves.Driver.{Driver}
 use Rattle.cw_sim.proofs.Laws.EventsFit.{strand_here, is_free_here}
 use Rattle.cw_sim.proofs.Laws.Fits.{stop_fits}

@@ -13,7 +13,7 @@ use Rattle.cw_sim.specs.Workers.{Worker, Simulation, right_node, worker, worker_
 use Rattle.cw_sim.specs.Moves.{others, take_fork, steal}
 use Rattle.cw_sim.specs.WorkersInMemory.{worker_of, workers_of, first_with_forks, workers_next as workers_after}
 use Rattle.cw_sim.specs.InMemory.{Seen, StandsFor, IsSteady, MayMove, MayTake, Comes}
-use Rattle.cw_sim.specs.declared.worker.Worker.{Worker as WorkerInMemory}
+use Rattle.cw_sim.specs.declared.worker.WorkerInMemory.{WorkerInMemory}
 use Rattle.cw_sim.specs.declared.moves.Driver.{Driver}
 use Rattle.cw_sim.proofs.Laws.EventsFit.{robbed_here, split_fits_here}
 use Rattle.cw_sim.proofs.Kept.Halves.{right_child}

@@ -10,7 +10,7 @@ use Rattle.cw_tree.specs.Walks.{has}
 use Rattle.cw_tree.proofs.Lists.{get_map_below}
 use Rattle.cw_sim.specs.Workers.{Worker, idle, worker_in}
 use Rattle.cw_sim.specs.WorkersInMemory.{IsLast, without_waiting, worker_of, workers_of, first_with_forks, workers_next}
-use Rattle.cw_sim.specs.declared.worker.Worker.{Worker as InMemory}
+use Rattle.cw_sim.specs.declared.worker.WorkerInMemory.{WorkerInMemory}
 
 -- ## One fork less
 
@@ -51,17 +51,17 @@ last_deque w f g rest last none e =
 
 -- ## Workers in memory
 
-pub worker_there : (ws : List InMemory) (w : ℕ) (d : InMemory) → w < length ws → worker_in (workers_of ws) w ≡ worker_of (get_or ws w d)
+pub worker_there : (ws : List WorkerInMemory) (w : ℕ) (d : WorkerInMemory) → w < length ws → worker_in (workers_of ws) w ≡ worker_of (get_or ws w d)
 worker_there [] w d low = absurd (omega (arith, low))
 worker_there (x ∷ ws) zero d low = refl
 worker_there (x ∷ ws) (suc w) d low = worker_there ws w d (omega (arith, low))
 
 -- worker w was changed
-pub worker_set : (ws : List InMemory) (w : ℕ) (x : InMemory) → workers_of (set ws w x) ≡ set (workers_of ws) w (worker_of x)
+pub worker_set : (ws : List WorkerInMemory) (w : ℕ) (x : WorkerInMemory) → workers_of (set ws w x) ≡ set (workers_of ws) w (worker_of x)
 worker_set ws w x = map-set worker_of ws w x
 
 -- and is then this function of what it was
-pub changed_in : (ws : List InMemory) (w : ℕ) (old new : InMemory) → w < length ws → old ≡ get_or ws w old → (f : Worker → Worker) → worker_of new ≡ f (worker_of old)
+pub changed_in : (ws : List WorkerInMemory) (w : ℕ) (old new : WorkerInMemory) → w < length ws → old ≡ get_or ws w old → (f : Worker → Worker) → worker_of new ≡ f (worker_of old)
     → workers_of (set ws w new) ≡ set (workers_of ws) w (f (worker_in (workers_of ws) w))
 changed_in ws w old new low at f e = worker_set ws w new ∙ ap (set (workers_of ws) w) (e ∙ ap f (ap worker_of at ∙ sym (worker_there ws w old low)))
 
@@ -82,14 +82,14 @@ some_in_deque w f last none = by w.deque (sym (append-nil w.deque) ∙ ap (λ is
   by : (ds : List ℕ) → ds ≡ last.before ++ f ∷ [] → 0 < length ds
   by ds e = let n = ap length e in let k = length-append last.before (f ∷ []) in omega (arith, n, k)
 
-pub is_idle : (x : InMemory) → x.runs ≡ None → x.deque.items ≡ [] → x.inline.items ≡ [] → worker_of x ≡ idle
+pub is_idle : (x : WorkerInMemory) → x.runs ≡ None → x.deque.items ≡ [] → x.inline.items ≡ [] → worker_of x ≡ idle
 is_idle x runs deque inline =
     ap (λ r. record (worker_of x) { runs = r }) runs
     ∙ ap (λ ds. record (worker_of x) { runs = None; deque = ds }) deque
     ∙ ap (λ is. record (worker_of x) { runs = None; deque = []; inline = is }) inline
 
 -- one idle worker more
-pub idle_more : (ws : List InMemory) (x : InMemory) (first : Worker) (k : ℕ) → workers_of ws ≡ first ∷ replicate k idle → worker_of x ≡ idle → workers_of (ws ++ x ∷ []) ≡ first ∷ replicate (k + 1) idle
+pub idle_more : (ws : List WorkerInMemory) (x : WorkerInMemory) (first : Worker) (k : ℕ) → workers_of ws ≡ first ∷ replicate k idle → worker_of x ≡ idle → workers_of (ws ++ x ∷ []) ≡ first ∷ replicate (k + 1) idle
 idle_more ws x first k e q =
     map-append worker_of ws (x ∷ [])
     ∙ ap (λ ys. ys ++ worker_of x ∷ []) e
@@ -133,7 +133,7 @@ none_after w count i high = drop_all (i - 1) (workers_next w count) (omega (arit
 
 -- ## A search of them
 
-module _ (ws : List InMemory) (v : ℕ) (d : InMemory) (b : Bool) (low : v < length ws) (is : b ≡ nat_eq (deque_len (get_or ws v d).deque) 0) where
+module _ (ws : List WorkerInMemory) (v : ℕ) (d : WorkerInMemory) (b : Bool) (low : v < length ws) (is : b ≡ nat_eq (deque_len (get_or ws v d).deque) 0) where
   counted : length (worker_in (workers_of ws) v).deque ≡ deque_len (get_or ws v d).deque
   counted = ap (λ x. length x.deque) (worker_there ws v d low) ∙ sym (get_or ws v d).deque.ok.0
 

@@ -10,7 +10,7 @@ ghost use Rattle.cw_board.specs.Boards.{budget_of, cells_in, columns_of, table_o
 ghost use Rattle.tests_board.specs.Led.{IsLed};
 
 use cw_base::{OutOfMemory, Stack};
-use cw_board::{Board, Naming};
+use cw_board::{Board, BoardName};
 use cw_log::{Above, Access, Forked, Logs, Phase};
 use cw_order::Steps;
 use cw_steps::StrandToken;
@@ -23,7 +23,7 @@ use std::sync::ledger::{Blank, Ledger};
 
 /// A board whose table is `N.table`.
 #[derive(Drop)]
-pub(super) struct Scene<N: Naming> {
+pub(super) struct Scene<N: BoardName> {
     board: Board,
     alloc: Global,
     cells: u32,
@@ -45,13 +45,13 @@ struct Stand {
 
 /// A strand, with its token of the board whose table is `N.table`. It has not stopped.
 #[derive(Drop)]
-pub(super) struct Strand<N: Naming> {
+pub(super) struct Strand<N: BoardName> {
     token: StrandToken,
     stand: Stand,
     of: PhantomData<N>,
 }
 
-impl<N: Naming> Model for Scene<N> {
+impl<N: BoardName> Model for Scene<N> {
     ghost use Rattle.std.specs.Prelude.{◌≡◌, ℕ};
     ghost use Rattle.cw_board.specs.Boards.{budget_of, cells_in, columns_of, table_of};
 
@@ -62,7 +62,7 @@ impl<N: Naming> Model for Scene<N> {
     ghost invariant = { λ s. (table_of s.board ≡ N.table) × (columns_of s.board ≡ N.columns) × (budget_of s.board ≡ s.budget) × (cells_in s.board ≡ s.cells) };
 }
 
-impl<N: Naming> Model for Strand<N> {
+impl<N: BoardName> Model for Strand<N> {
     ghost use Rattle.std.specs.Prelude.{ℕ};
     ghost use Rattle.cw_steps.specs.Stands.{token_of};
     ghost use Rattle.cw_board.specs.Boards.{IsAt};
@@ -76,7 +76,7 @@ impl<N: Naming> Model for Strand<N> {
 }
 
 /// Makes a strand that stands there.
-fn strand_of<N: Naming>(token: StrandToken, stand: Stand) -> Strand<N>
+fn strand_of<N: BoardName>(token: StrandToken, stand: Stand) -> Strand<N>
     requires at { IsAt N.table N.columns token }
     requires led { IsLed (token_of token) stand.strand stand.fork stand.split stand.phase stand.forks stand.strands }
 {
@@ -331,7 +331,7 @@ fn asks<R: Wait>(board: &Board, rt: &R, token: &mut StrandToken, last: Mark) -> 
 
 // ## Calls
 
-impl<N: Naming> Scene<N> {
+impl<N: BoardName> Scene<N> {
     /// Takes the board, and its root's strand.
     pub(super) fn new(
         alloc: Global,

@@ -6,7 +6,7 @@ ghost use Rattle.cw_board.specs.Boards.{budget_of, cells_in, columns_of, table_o
 
 use super::led::{Scene, Strand};
 use cw_base::OutOfMemory;
-use cw_board::{Board, Naming};
+use cw_board::{Board, BoardName};
 use cw_code::Limits;
 use cw_log::Access;
 use cw_trace::Verdict;
@@ -46,14 +46,14 @@ const LIMITS: Limits = Limits {
 /// The strands that are led, each at its number until it is joined.
 type Cast<N> = Vec<Option<Strand<N>>>;
 
-fn taken<N: Naming>(cast: &mut Cast<N>, n: usize) -> Result<Strand<N>, OutOfMemory> {
+fn taken<N: BoardName>(cast: &mut Cast<N>, n: usize) -> Result<Strand<N>, OutOfMemory> {
     match cast.get_mut(n) {
         Some(place) => place.take().ok_or(OutOfMemory),
         None => Err(OutOfMemory),
     }
 }
 
-fn put<N: Naming>(cast: &mut Cast<N>, n: usize, led: Strand<N>) {
+fn put<N: BoardName>(cast: &mut Cast<N>, n: usize, led: Strand<N>) {
     match cast.get_mut(n) {
         Some(place) => drop(place.replace(led)),
         None => drop(led),
@@ -116,7 +116,7 @@ fn access_told(text: &mut String, access: &Access) -> Result<(), Fail> {
 }
 
 /// Makes a call that returns nothing.
-fn moved<N: Naming, R: Wait>(
+fn moved<N: BoardName, R: Wait>(
     rt: &R,
     scene: &Scene<N>,
     led: Strand<N>,
@@ -139,7 +139,7 @@ fn moved<N: Naming, R: Wait>(
 }
 
 /// Returns the strand, once what its call returned is written.
-fn kept<N: Naming>(led: Strand<N>, told: Result<(), Fail>) -> Result<Strand<N>, Fail> {
+fn kept<N: BoardName>(led: Strand<N>, told: Result<(), Fail>) -> Result<Strand<N>, Fail> {
     match told {
         Ok(()) => Ok(led),
         Err(fault) => {
@@ -150,7 +150,7 @@ fn kept<N: Naming>(led: Strand<N>, told: Result<(), Fail>) -> Result<Strand<N>, 
 }
 
 /// Makes an access, and writes what it returns.
-fn accessed<N: Naming, R: Wait>(
+fn accessed<N: BoardName, R: Wait>(
     rt: &R,
     scene: &Scene<N>,
     led: Strand<N>,
@@ -164,7 +164,7 @@ fn accessed<N: Naming, R: Wait>(
     kept(led, told)
 }
 
-fn chained<N: Naming, R: Wait>(
+fn chained<N: BoardName, R: Wait>(
     rt: &R,
     scene: &Scene<N>,
     led: Strand<N>,
@@ -177,7 +177,7 @@ fn chained<N: Naming, R: Wait>(
     kept(led, told)
 }
 
-fn asked<N: Naming, R: Wait>(
+fn asked<N: BoardName, R: Wait>(
     rt: &R,
     scene: &Scene<N>,
     led: Strand<N>,
@@ -189,7 +189,7 @@ fn asked<N: Naming, R: Wait>(
 }
 
 /// Makes a call other than fork or join, and writes what it returns.
-fn told<N: Naming, R: Wait>(
+fn told<N: BoardName, R: Wait>(
     rt: &R,
     scene: &Scene<N>,
     led: Strand<N>,
@@ -229,7 +229,7 @@ fn who(call: Call) -> usize {
     }
 }
 
-fn forked<N: Naming, R: Wait>(
+fn forked<N: BoardName, R: Wait>(
     rt: &R,
     scene: &Scene<N>,
     cast: &mut Cast<N>,
@@ -242,7 +242,7 @@ fn forked<N: Naming, R: Wait>(
     Ok(())
 }
 
-fn joined<N: Naming>(
+fn joined<N: BoardName>(
     scene: &Scene<N>,
     cast: &mut Cast<N>,
     n: usize,
@@ -261,7 +261,7 @@ fn joined<N: Naming>(
 }
 
 /// Makes a call, and writes what it returns.
-fn called<N: Naming, R: Wait>(
+fn called<N: BoardName, R: Wait>(
     rt: &R,
     scene: &Scene<N>,
     cast: &mut Cast<N>,
@@ -320,7 +320,7 @@ fn closed_told(text: &mut String, closed: &Closed) -> Result<(), Fail> {
 }
 
 /// Makes the calls and writes what they return. Returns the root's strand.
-fn all_called<N: Naming, R: Wait>(
+fn all_called<N: BoardName, R: Wait>(
     rt: &R,
     scene: &Scene<N>,
     cast: &mut Cast<N>,
@@ -334,7 +334,7 @@ fn all_called<N: Naming, R: Wait>(
 }
 
 /// Makes the calls; the first strand is the root.
-fn plays<N: Naming, R: Wait>(
+fn plays<N: BoardName, R: Wait>(
     rt: &R,
     alloc: Global,
     scene: &Scene<N>,
@@ -350,7 +350,7 @@ fn plays<N: Naming, R: Wait>(
 }
 
 /// Writes what the board leaves.
-fn closes<N: Naming>(scene: Scene<N>, root: Strand<N>, text: &mut String) -> Result<(), Fail> {
+fn closes<N: BoardName>(scene: Scene<N>, root: Strand<N>, text: &mut String) -> Result<(), Fail> {
     let closed = scene.close(root)?;
     let told = closed_told(text, &closed);
     drop(closed);
@@ -358,7 +358,7 @@ fn closes<N: Naming>(scene: Scene<N>, root: Strand<N>, text: &mut String) -> Res
 }
 
 /// Writes what the calls return, and what the board leaves.
-fn played<N: Naming, R: Wait>(
+fn played<N: BoardName, R: Wait>(
     rt: &R,
     alloc: Global,
     made: (Board, cw_steps::StrandToken),

@@ -6,7 +6,7 @@ ghost use Rattle.cw_board.specs.Boards.{budget_of, cells_in, columns_of, table_o
 
 use super::led::{Scene, Strand};
 use cw_base::OutOfMemory;
-use cw_board::{Board, Naming};
+use cw_board::{Board, BoardName};
 use cw_code::Limits;
 use cw_log::Access;
 use cw_steps::StrandToken;
@@ -32,7 +32,7 @@ const SHARED: u32 = 4;
 const ACCESSES: u32 = 100_000;
 
 /// Returns the value of a granted access.
-fn granted<N: Naming>(found: (Strand<N>, Access)) -> Result<(Strand<N>, i64), OutOfMemory> {
+fn granted<N: BoardName>(found: (Strand<N>, Access)) -> Result<(Strand<N>, i64), OutOfMemory> {
     let (led, access) = found;
     match access {
         Access::Value(value) => Ok((led, value)),
@@ -45,7 +45,7 @@ fn granted<N: Naming>(found: (Strand<N>, Access)) -> Result<(Strand<N>, i64), Ou
 }
 
 /// Adds 1 to the value of a cell.
-fn adds<N: Naming, R: Wait>(
+fn adds<N: BoardName, R: Wait>(
     rt: &R,
     scene: &Scene<N>,
     led: Strand<N>,
@@ -58,7 +58,7 @@ fn adds<N: Naming, R: Wait>(
 }
 
 /// Adds 1 `times` times to a cell of its own and to the shared one: four accesses each time.
-fn counts<N: Naming, R: Wait>(
+fn counts<N: BoardName, R: Wait>(
     rt: &R,
     scene: &Scene<N>,
     led: Strand<N>,
@@ -74,7 +74,7 @@ fn counts<N: Naming, R: Wait>(
 }
 
 /// Returns the two strands of a split fork.
-fn parts<N: Naming, R: Wait>(
+fn parts<N: BoardName, R: Wait>(
     rt: &R,
     scene: &Scene<N>,
     led: Strand<N>,
@@ -90,7 +90,7 @@ fn parts<N: Naming, R: Wait>(
 }
 
 /// Joins both strands, and returns the strand that forked.
-fn meets<N: Naming, R: Wait>(
+fn meets<N: BoardName, R: Wait>(
     rt: &R,
     scene: &Scene<N>,
     left: Result<Strand<N>, OutOfMemory>,
@@ -110,7 +110,7 @@ fn meets<N: Naming, R: Wait>(
 }
 
 /// Both strands of a fork count, each on a thread of its own.
-fn pair<N: Naming, R: Threads + Wait + Sync>(
+fn pair<N: BoardName, R: Threads + Wait + Sync>(
     rt: &R,
     scene: &Scene<N>,
     led: Strand<N>,
@@ -128,7 +128,7 @@ fn pair<N: Naming, R: Threads + Wait + Sync>(
 }
 
 /// Both strands of two forks count.
-fn pairs<N: Naming, R: Threads + Wait + Sync>(
+fn pairs<N: BoardName, R: Threads + Wait + Sync>(
     rt: &R,
     scene: &Scene<N>,
     led: Strand<N>,
@@ -143,7 +143,7 @@ fn pairs<N: Naming, R: Threads + Wait + Sync>(
     meets(rt, scene, left, right)
 }
 
-fn counted<N: Naming, R: Threads + Wait + Sync>(
+fn counted<N: BoardName, R: Threads + Wait + Sync>(
     rt: &R,
     alloc: Global,
     made: (Board, StrandToken),

@@ -12,7 +12,7 @@ invariant_of-now-in_default-fork g c =
 
 pub fork_token-requires-clause-forking : goal.fork_token-requires-clause-forking
 fork_token-requires-clause-forking g c κs within =
-    let job = g.J.Naming-1.job in
+    let job = g.J.RunName.job in
     let of = g.B.SharedBoard.of in
     subst (λ (w : InBlocks). IsForking {T = g.row.B-Token.Denot} {J = g.row.J.Denot} job of (of c.now.inside.token) w c.in-Ok-fork.left c.fork.new.self c.reserve.new.self.items c.now.inside.base) (sym c.of-before.ensures) (record {
       task = with_below _ _ _ _ _ _ _ _ c.reserve.ensures.items (going _ _ c.in-Goes.is c.now.invariant);

@@ -12,7 +12,7 @@ invariant_of-now-in-Ok-answer g c =
     let signed : SFits w64 c.in-Out.value = search rules in
     let e : g.B.SharedBoard.of c.out.new.token ≡ made (g.B.SharedBoard.of c.now.inside.token) (Out c.in-Out.value) stamp =
     e0 ∙ ap (λ v. made (g.B.SharedBoard.of c.now.inside.token) (Out v) stamp) (to_z-of_z w64 c.in-Out.value signed) in
-    acts _ _ _ _ _ _ _ _ _ _ stamp Nothing c.in-Goes.is c.now.invariant (sym (c.in-Out.ensures g.J.Naming-1.job), refl) e (c.in-Ok-answer.ensures.ok g.J.Naming-1.job (sym c.args.scene.now.program_of))
+    acts _ _ _ _ _ _ _ _ _ _ stamp Nothing c.in-Goes.is c.now.invariant (sym (c.in-Out.ensures g.J.RunName.job), refl) e (c.in-Ok-answer.ensures.ok g.J.RunName.job (sym c.args.scene.now.program_of))
 
 pub invariant_of-now-in-Err : goal.invariant_of-now-in-Err
 invariant_of-now-in-Err g c =
@@ -20,4 +20,4 @@ invariant_of-now-in-Err g c =
     let signed : SFits w64 c.in-Out.value = search rules in
     let e : g.B.SharedBoard.of c.out.new.token ≡ made (g.B.SharedBoard.of c.now.inside.token) (Out c.in-Out.value) stamp =
     e0 ∙ ap (λ v. made (g.B.SharedBoard.of c.now.inside.token) (Out v) stamp) (to_z-of_z w64 c.in-Out.value signed) in
-    acts_last _ _ _ _ _ _ _ _ _ _ _ stamp Nothing c.in-Goes.is c.now.invariant (sym (c.in-Out.ensures g.J.Naming-1.job), refl) e c.halt.ensures
+    acts_last _ _ _ _ _ _ _ _ _ _ _ stamp Nothing c.in-Goes.is c.now.invariant (sym (c.in-Out.ensures g.J.RunName.job), refl) e c.halt.ensures

@@ -3,4 +3,4 @@ use Rattle.cw_pool.proofs.Tasks.Stopping.{is_faulty}
 use Rattle.cw_pool.proofs.moves.stop_at_fault.Goals as goal
 
 pub invariant_of-now : goal.invariant_of-now
-invariant_of-now g c = is_faulty _ _ _ _ _ _ _ _ _ c.in-Fault.kind c.in-Goes.is c.now.invariant (sym (c.in-Fault.ensures g.J.Naming-1.job)) c.halt.ensures
+invariant_of-now g c = is_faulty _ _ _ _ _ _ _ _ _ c.in-Fault.kind c.in-Goes.is c.now.invariant (sym (c.in-Fault.ensures g.J.RunName.job)) c.halt.ensures

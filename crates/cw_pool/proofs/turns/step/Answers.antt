@@ -4,4 +4,4 @@ use Rattle.cw_pool.proofs.turns.step.Goals as goal
 
 -- no strand gives up a block
 pub unreachable-requires : goal.unreachable-requires
-unreachable-requires g c = gives_up_none _ _ _ _ _ _ _ c.in-Goes.is c.now.invariant (sym (c.want.ensures g.J.Naming-1.job) ∙ c.in-Cancel.is)
+unreachable-requires g c = gives_up_none _ _ _ _ _ _ _ c.in-Goes.is c.now.invariant (sym (c.want.ensures g.J.RunName.job) ∙ c.in-Cancel.is)

@@ -4,8 +4,8 @@ use Rattle.std.proofs.lemmas.Bool.{cases_lt}
 use Rattle.std.proofs.lemmas.List.{set_past}
 use Rattle.cw_serial.specs.Wants.{memory_after}
 use Rattle.cw_job.specs.Jobs.{job_of_task}
-use Rattle.cw_record.proofs.worker.Worker.do_want.Goals as goal
-use Rattle.cw_record.proofs.worker.Worker.do_want.Goals.{in-Store+in_ok-add_write-in-Store, in-Some, in_default, in-Out+in_ok-push-in-Out+in_ok-add_output-in-Out, in-Begin+in_ok-begin_block-in-Begin, in-End+in_ok-end_block-in-End}
+use Rattle.cw_record.proofs.worker.SoleWorker.do_want.Goals as goal
+use Rattle.cw_record.proofs.worker.SoleWorker.do_want.Goals.{in-Store+in_ok-add_write-in-Store, in-Some, in_default, in-Out+in_ok-push-in-Out+in_ok-add_output-in-Out, in-Begin+in_ok-begin_block-in-Begin, in-End+in_ok-end_block-in-End}
 
 pub returns-clause-acts : goal.returns-clause-acts
 returns-clause-acts c =

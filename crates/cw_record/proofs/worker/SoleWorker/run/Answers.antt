@@ -6,7 +6,7 @@ use Rattle.cw_record.proofs.OneWorker.Leaving.{runs_first}
 use Rattle.cw_record.proofs.OneWorker.Shaped.{to_come_there}
 use Rattle.cw_record.proofs.OneWorker.Turning.{first_fork_there, act_run, fork_run, turn_run, join_run, finish_answer, fault_answer, follow_run, act_ready}
 use Rattle.cw_record.proofs.OneWorker.Standings.{act_stands, turn_stands, join_stands}
-use Rattle.cw_record.proofs.worker.Worker.run.Goals as goal
+use Rattle.cw_record.proofs.worker.SoleWorker.run.Goals as goal
 
 pub wants-init : goal.wants-init
 wants-init c =

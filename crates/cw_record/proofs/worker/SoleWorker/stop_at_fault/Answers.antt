@@ -5,7 +5,7 @@ use Rattle.cw_tree.specs.declared.node.Kind.TheVariants.{Strand}
 use Rattle.cw_record.specs.OneWorker.{unstarted}
 use Rattle.cw_record.proofs.OneWorker.Unstarted.{with_strands}
 use Rattle.cw_record.proofs.OneWorker.Waiting.{first_there, rest_there, more_there, one_unstarted}
-use Rattle.cw_record.proofs.worker.Worker.stop_at_fault.Goals as goal
+use Rattle.cw_record.proofs.worker.SoleWorker.stop_at_fault.Goals as goal
 
 pub start_strand-requires : goal.start_strand-requires
 start_strand-requires c = first_there (length c.loop-branch.drawing.tree) c.loop-branch.branches c.pop.new.self c.in-Some.branch c.in-Some.ensures c.loop-branch.invariant.2 c.in-Left.fork c.in-Left.right c.in-Left.is

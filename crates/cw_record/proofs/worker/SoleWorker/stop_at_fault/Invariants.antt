@@ -3,7 +3,7 @@ use Rattle.std.specs.Prelude.{All}
 use Rattle.cw_tree.specs.Nodes.{fresh_node}
 use Rattle.cw_tree.specs.declared.node.Kind.TheVariants.{Strand}
 use Rattle.cw_record.specs.OneWorker.{unstarted}
-use Rattle.cw_record.proofs.worker.Worker.stop_at_fault.Given as goal
+use Rattle.cw_record.proofs.worker.SoleWorker.stop_at_fault.Given as goal
 
 abbrev pub invariant-loop-branch : goal.invariant-loop-branch
 invariant-loop-branch l =
