@@ -1,26 +1,27 @@
 ghost use Rattle.std.specs.Prelude.{◌≡◌, ◌↔◌, pos, length, IfOk, IsTrue};
 ghost use Rattle.cw_job.specs.Jobs.{TakesWords};
 ghost use Rattle.cw_tree.specs.Nodes.{is_strand};
-ghost use Rattle.cw_job.specs.Memory.{value_at};
 ghost use Rattle.cw_serial.specs.MachineOf.{end_under};
 ghost use Rattle.cw_record.specs.Order.{ending_strand};
 ghost use Rattle.cw_record.specs.Replay.{SameEnd};
 ghost use Rattle.cw_record.specs.Records.{IsReplayed, job_of_record};
-ghost use Rattle.cw_record.specs.declared.checking.Checked.TheVariants.{Disagree};
-ghost use Rattle.cw_record.specs.Checking.{IsCheckOf, difference, first_difference, other_variant, variant};
+ghost use Rattle.cw_record.specs.Checking.{IsCheckOf, answer_of, end_number};
 
+use crate::disagreement::{Disagreement, EndKind, first_disagreement};
 use crate::order::ending_strand;
 use crate::replaying::is_followed;
 use crate::{Record, RecordEnd, order_of};
 use cw_base::OutOfMemory;
-use cw_job::{first_memory, value_at};
+use cw_job::first_memory;
 use cw_serial::{SerialEnd, serial};
 use cw_tree::{Name, Picks, Tree};
 use std::alloc::Global;
 
-/// What a check of a record says. If the memories differ, `cell` is the number of a cell, and `kept` and `replayed` are its two
-/// values. Otherwise `cell` is the number of cells. Then the two are the first outputs that differ, or the variants of the two
-/// ends, from 0 on in the order of `RecordEnd`, with 4 as `replayed` if the variant of the replay's end tells nothing.
+/// What a check of a record says. If it disagrees, the numbers tell what differs first.
+/// - A cell: `cell` is its number, `kept` and `replayed` are its two values.
+/// - Otherwise an output: `cell` is the number of cells, `kept` and `replayed` are the first two outputs that differ.
+/// - Otherwise the ends: `cell` is the number of cells, `kept` and `replayed` are the variants of the two ends, from 0 on in the
+///   order of `RecordEnd`. `replayed` is 4 if the variant of the replay's end tells nothing.
 #[derive(Clone, Copy, PartialEq, Eq, Debug)]
 pub enum Checked {
     Agrees,
@@ -53,9 +54,9 @@ pub fn check(alloc: Global, kept: &Record) -> Result<Checked, OutOfMemory>
             Ok(Checked::Agrees)
         }
         Ok(false) => {
-            let differs = difference(cells, &kept.end, &end);
+            let found = first_disagreement(&kept.end, &end);
             drop(end);
-            differs
+            answer_of(cells, found)
         }
         Err(fault) => {
             drop(end);
@@ -148,74 +149,44 @@ fn same_names(a: &[Name], b: &[Name]) -> bool
     a == b
 }
 
-/// Returns the first difference of two ends, for a memory of `cells` cells.
-fn difference(cells: u32, kept: &RecordEnd, end: &SerialEnd) -> Result<Checked, OutOfMemory>
-    ensures { IfOk result (λ c. c ≡ difference cells kept.now end.now) }
+/// Returns the answer that tells a disagreement in three numbers, for a memory of `cells` cells.
+fn answer_of(cells: u32, found: Disagreement) -> Result<Checked, OutOfMemory>
+    ensures { IfOk result (λ c. c ≡ answer_of cells found) }
 {
-    if let (
-        RecordEnd::Finished { memory, outputs },
-        SerialEnd::Finished {
-            memory: values,
-            outputs: shown,
+    match found {
+        Disagreement::Cell {
+            cell,
+            kept,
+            replayed,
+        } => match u32::try_from(cell) {
+            Ok(cell) => Ok(Checked::Disagree {
+                cell,
+                kept,
+                replayed,
+            }),
+            Err(_) => Err(OutOfMemory),
         },
-    ) = (kept, end)
-    {
-        let memories = first_difference(memory.as_slice(), values.as_slice());
-        if let Some(place) = memories {
-            let Ok(cell) = u32::try_from(place) else {
-                return Err(OutOfMemory);
-            };
-            return Ok(disagreement(cell, place, memory.as_slice(), values.as_slice()));
-        }
-        if let Some(place) = first_difference(outputs.as_slice(), shown.as_slice()) {
-            return Ok(disagreement(cells, place, outputs.as_slice(), shown.as_slice()));
-        }
-    }
-    Ok(Checked::Disagree {
-        cell: cells,
-        kept: variant(kept),
-        replayed: other_variant(kept, end),
-    })
-}
-
-/// Returns the values at position `place`, at which two lists differ, as a difference at `cell`.
-fn disagreement(cell: u32, place: usize, kept: &[i64], replayed: &[i64]) -> Checked
-    ensures { result ≡ Disagree cell (value_at kept.now place) (value_at replayed.now place) }
-{
-    Checked::Disagree {
-        cell,
-        kept: value_at(kept, place),
-        replayed: value_at(replayed, place),
+        Disagreement::Output { kept, replayed, .. } => Ok(Checked::Disagree {
+            cell: cells,
+            kept,
+            replayed,
+        }),
+        Disagreement::End { kept, replayed } => Ok(Checked::Disagree {
+            cell: cells,
+            kept: end_number(kept),
+            replayed: replayed.map_or(4, end_number),
+        }),
     }
 }
 
-/// Returns the first position at which two lists differ, among those that both have.
-fn first_difference(kept: &[i64], replayed: &[i64]) -> Option<usize>
-    ensures { result ≡ first_difference kept.now replayed.now }
+/// Returns the number of a variant, in the order of the variants.
+fn end_number(kind: EndKind) -> i64
+    ensures { result ≡ pos (end_number kind) }
 {
-    kept.iter().zip(replayed.iter()).position(|(k, r)| k != r)
-}
-
-/// Returns the number of an end's variant.
-fn variant(end: &RecordEnd) -> i64
-    ensures { result ≡ pos (variant end.now) }
-{
-    match end {
-        RecordEnd::Finished { .. } => 0,
-        RecordEnd::Fault { .. } => 1,
-        RecordEnd::Budget { .. } => 2,
-        RecordEnd::Moves => 3,
-    }
-}
-
-/// Returns the replay's variant if it differs from the record's, otherwise 4.
-fn other_variant(kept: &RecordEnd, end: &SerialEnd) -> i64
-    ensures { result ≡ pos (other_variant kept.now end.now) }
-{
-    match (kept, end) {
-        (RecordEnd::Fault { .. } | RecordEnd::Budget { .. }, SerialEnd::Finished { .. }) => 0,
-        (RecordEnd::Finished { .. } | RecordEnd::Budget { .. }, SerialEnd::Fault { .. }) => 1,
-        (RecordEnd::Finished { .. } | RecordEnd::Fault { .. }, SerialEnd::At { .. }) => 2,
-        _ => 4,
+    match kind {
+        EndKind::Finished => 0,
+        EndKind::Fault => 1,
+        EndKind::Budget => 2,
+        EndKind::Moves => 3,
     }
 }

@@ -13,6 +13,7 @@ ghost use Rattle.cw_record.specs.WorkedEnds.{Ends};
 ghost use Rattle.cw_record.specs.WorkedRecord.{Coherent};
 
 mod checking;
+mod disagreement;
 mod drawing;
 mod items;
 mod left;

@@ -1,7 +1,7 @@
 ghost use Rattle.cw_job.specs.Jobs.{TakesWords};
 ghost use Rattle.cw_strand.specs.Programs.{IsCompiled};
 
-use super::checks::said;
+use super::checks::{differs, said};
 use super::grown::{Bud, grown};
 use super::machines::program;
 use cw_base::Seq;
@@ -83,21 +83,16 @@ fn said_of_twice(alloc: Global, list: &[Back]) -> Result<Checked, Fail> {
 #[test]
 fn a_list_is_looked_at(rt: HostRuntime) -> Result<(), Fail> {
     let alloc = rt.alloc();
-    let differs = |cell| Checked::Disagree {
-        cell,
-        kept: 0,
-        replayed: 4,
-    };
-    for (value, wanted) in [(5, Checked::Agrees), (6, differs(1))] {
+    for (value, wanted) in [(5, Checked::Agrees), (6, differs(1, 0))] {
         let answer = said_of_shown(alloc, value)?;
         assert!(rt; answer == wanted);
     }
     let lists: [(&[Back], Checked); 5] = [
         (&[back(0, 1), back(1, 2)], Checked::Agrees),
-        (&[back(0, 1), back(1, 3)], differs(3)),
-        (&[back(0, 1), back(1, 2), back(2, 0)], differs(3)),
-        (&[back(1, 2)], differs(3)),
-        (&[back(1, 2), back(0, 1)], differs(3)),
+        (&[back(0, 1), back(1, 3)], differs(3, 0)),
+        (&[back(0, 1), back(1, 2), back(2, 0)], differs(3, 0)),
+        (&[back(1, 2)], differs(3, 0)),
+        (&[back(1, 2), back(0, 1)], differs(3, 0)),
     ];
     for (list, wanted) in lists {
         let answer = said_of_twice(alloc, list)?;

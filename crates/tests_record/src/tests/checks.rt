@@ -110,9 +110,11 @@ fn conflict(alloc: Global, last: u64, asker: u32, block: u64, victim: u64) -> Co
     }
 }
 
-const fn differs(cell: u32, kept: i64) -> Checked {
+// The answer if no cell, no output and no variant of the ends tells the difference: the record of a program with `cells` cells ends
+// with the variant of number `kept`.
+pub const fn differs(cells: u32, kept: i64) -> Checked {
     Checked::Disagree {
-        cell,
+        cell: cells,
         kept,
         replayed: 4,
     }

@@ -85,6 +85,7 @@ fn with_tree(alloc: Global, mut run: Record, tree: Tree) -> Result<Checked, Fail
     Ok(check(alloc, &run)?)
 }
 
+// Both programs have one cell. So 0 is its number, and 1 says that no cell differs.
 const fn disagree(cell: u32, kept: i64, replayed: i64) -> Checked {
     Checked::Disagree {
         cell,
