@@ -3,9 +3,8 @@
 # the time of one run (the mean of ten) and the most memory that one took.
 # Usage: bench/assignments.sh PROGRAM, with the program as the gate builds it: crates/cwstm/out/cwstm, once `rt ci` has passed.
 set -eu
-program=$1
-folder=$(mktemp -d)
-trap 'rm -rf "$folder"' EXIT
+. "$(dirname "$0")/lib.sh"
+use_program "${1:-}"
 for bytes in 102400 1048576; do
   awk -v most="$bytes" 'BEGIN {
     text = "cell c; cell d;\nfn main() {\n"; printf "%s", text; size = length(text) + 2
@@ -15,13 +14,8 @@ for bytes in 102400 1048576; do
       printf "%s", line; size += length(line)
     }
     print "}"
-  }' > "$folder/source.cw"
-  begin=$(date +%s%N)
-  for _ in 1 2 3 4 5 6 7 8 9 10; do "$program" run --workers 1 < "$folder/source.cw" > "$folder/text"; done
-  end=$(date +%s%N)
-  memory=unknown
-  if [ -x /usr/bin/time ]; then
-    memory=$(/usr/bin/time -f '%M KiB' "$program" run --workers 1 < "$folder/source.cw" 2>&1 > /dev/null)
-  fi
-  echo "$(wc -c < "$folder/source.cw") bytes: $(((end - begin) / 10000000)) ms, $memory, $(tr '\n' ' ' < "$folder/text")"
+  }' > source.cw
+  time=$(mean_of 10 run_file source.cw run --workers 1)
+  memory=$(most_memory "$program" run --workers 1 < source.cw)
+  echo "$(wc -c < source.cw) bytes: $((time / 1000000)) ms, $memory, $(tr '\n' ' ' < text)"
 done

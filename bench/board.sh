@@ -7,25 +7,12 @@
 # The program is written into a copy of the crates, proved there and run; the crates beneath it are proved first, where no check kept them.
 # Usage: bench/board.sh
 set -eu
-top=$(cd "$(dirname "$0")/.." && pwd)
-copy=$(mktemp -d)
-trap 'rm -rf "$copy"' EXIT
-mkdir "$copy/crates"
-crates='cw_base cw_text cw_code cw_strand cw_job cw_tree cw_open cw_serial cw_order cw_trace cw_xconf cw_stack cw_record cw_log cw_course cw_steps cw_board'
-for name in $crates; do
-  mkdir "$copy/crates/$name"
-  (cd "$top/crates/$name" && tar cf - --exclude=out .) | tar xf - -C "$copy/crates/$name"
-  grep "^$name:" "$top/crates.txt" >> "$copy/crates.txt"
-done
-cp "$top/HANDLES" "$copy"
-cd "$copy"
-rt new crates/board_times start_io > new.log
-rm -rf crates/board_times/specs crates/board_times/proofs crates/board_times/src
-echo 'board_times: anyhow cw_base cw_code cw_order cw_tree cw_trace cw_log cw_steps cw_board' >> crates.txt
-cd crates/board_times
-: > stdin
-: > stdout
-mkdir src specs proofs
+. "$(dirname "$0")/lib.sh"
+make_folder
+copy_crates cw_base cw_text cw_code cw_strand cw_job cw_tree cw_open cw_serial cw_order cw_trace cw_xconf cw_stack cw_record cw_log cw_course \
+  cw_steps cw_board
+new_program board_times anyhow cw_base cw_code cw_order cw_tree cw_trace cw_log cw_steps cw_board
+mkdir specs proofs
 cat > src/main.rt <<'PROGRAM'
 // Times the calls of a board, on one thread and on four.
 #![tactic(auto)]
@@ -111,7 +98,7 @@ fn least(a: Times, b: Times) -> Times {
     }
 }
 
-/// Those of one of so many calls.
+/// The nanoseconds of one call, given those of all CALLS.
 fn of_one(nanos: u128) -> u64 {
     u64::try_from(nanos / u128::from(CALLS)).unwrap_or(u64::MAX)
 }
@@ -270,7 +257,7 @@ fn number_of(verdict: Verdict) -> u64 {
     }
 }
 
-/// Asks so often; the sum of the answers, of which Free is 0, Within 1 and Against 2.
+/// Asks CALLS times, and returns the sum of the answers: Free is 0, Within 1 and Against 2.
 fn many_asks<R: Wait, K: Ledger, L: Ledger>(
     rt: &R,
     board: &Board,
@@ -787,12 +774,12 @@ returns-in-Ok g c =
     )
 PROOF
 
-rt run > "$copy/build.log" 2>&1 || { tail -40 "$copy/build.log"; exit 1; }
-./out/board_times one four
-sed -n 's/^model name[^:]*: //p' /proc/cpuinfo | head -1
+build
+"$program" one four
+show_machine
 if command -v valgrind > valgrind.path; then
-  valgrind --tool=massif --massif-out-file=massif.out ./out/board_times columns > columns.told 2> massif.log
+  valgrind --tool=massif --massif-out-file=massif.out "$program" columns > columns.told 2> massif.log
   echo "$(cat columns.told), in $(sed -n 's/^mem_heap_B=//p' massif.out | sort -n | tail -1) bytes"
-  valgrind --tool=callgrind --callgrind-out-file=callgrind.out ./out/board_times one > one.told 2> callgrind.log
-  callgrind_annotate callgrind.out 2> annotate.log | grep -E '^ *[0-9,]+ \(.*:' | head -14 | sed -e 's/ \[[^]]*\]$//' -e 's/[^ ]*\/\([^/]*\)$/\1/'
+  instructions_of callgrind.out "$program" one > one.told
+  dearest callgrind.out 14
 fi

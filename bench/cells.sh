@@ -5,22 +5,10 @@
 # 1,000 chains. Before each access its stamp is tested by `last`, which is in its time.
 # The program is written into a copy of the crates, proved there and run. Usage: bench/cells.sh
 set -eu
-top=$(cd "$(dirname "$0")/.." && pwd)
-copy=$(mktemp -d)
-trap 'rm -rf "$copy"' EXIT
-mkdir "$copy/crates"
-for name in cw_base cw_code cw_tree cw_stack; do
-  mkdir "$copy/crates/$name"
-  (cd "$top/crates/$name" && tar cf - --exclude=out .) | tar xf - -C "$copy/crates/$name"
-done
-printf 'cw_base:\ncw_code: cw_base\ncw_tree: cw_base cw_code\ncw_stack: cw_base cw_tree\n' > "$copy/crates.txt"
-cd "$copy"
-rt new crates/cell_times start_io > /dev/null
-echo 'cell_times: cw_base cw_tree cw_stack' >> crates.txt
-cd crates/cell_times
-rm src/clock.rt
-: > stdin
-: > stdout
+. "$(dirname "$0")/lib.sh"
+make_folder
+copy_crates cw_base cw_code cw_tree cw_stack
+new_program cell_times cw_base cw_tree cw_stack
 cat > src/main.rt <<'PROGRAM'
 // Times the calls of a cell on lists of entries of four lengths.
 #![tactic(auto)]
@@ -39,7 +27,7 @@ const CHAINS: u64 = 1_000;
 const ROUNDS: u64 = 100;
 const ADDED: u64 = 1_000;
 
-// So many accesses, from a stamp on, each a write.
+// Makes this many accesses, from a stamp on, each a write.
 fn fill(cell: &mut Cell, first: u64, count: u64) -> Result<i64, OutOfMemory>
     ensures { cell.new.cleaned ≡ cell.old.cleaned }
 {
@@ -87,7 +75,7 @@ fn fill_cleaned(cell: &mut Cell, first: u64, count: u64) -> Result<i64, OutOfMem
     Ok(sum)
 }
 
-// The tenths of a nanosecond of a call, of so many in a while.
+// The tenths of a nanosecond of one of these calls.
 fn each(nanos: u128, calls: u64) -> u64 {
     let whole = u64::try_from(nanos).unwrap_or(u64::MAX);
     whole.saturating_mul(10).checked_div(calls).unwrap_or(0)
@@ -104,7 +92,7 @@ fn chains(cell: &Cell) -> Result<u64, OutOfMemory> {
     Ok(sum)
 }
 
-// The least time of so many chains.
+// The least time of CHAINS chains.
 fn chained<R: Clock>(rt: &R, cell: &Cell) -> io::Result<u128> {
     let mut least = u128::MAX;
     for _ in 0..ROUNDS {
@@ -198,4 +186,5 @@ use Rattle.cell_times.proofs.rounds.Given as goal
 abbrev pub invariant-loop : goal.invariant-loop
 invariant-loop g l = l.cell.cleaned ≡ l.cleaned
 PROOF
-rt run 2> "$copy/log" || { grep error "$copy/log" >&2; exit 1; }
+build
+"$program"

@@ -7,21 +7,11 @@
 # of no events) and the time of all; the machine is named last.
 # Usage: bench/core.sh, at the repository's top. The crates beneath the program are proved first, where no check kept them.
 set -eu
-folder=$(mktemp -d)
-trap 'rm -rf "$folder"' EXIT
-mkdir "$folder/crates"
-crates='cw_base cw_code cw_order cw_tree cw_open cw_stack cw_trace cw_xconf cw_core'
-for crate in $crates; do
-  mkdir "$folder/crates/$crate"
-  for part in src specs proofs; do if [ -d "crates/$crate/$part" ]; then cp -r "crates/$crate/$part" "$folder/crates/$crate/"; fi; done
-  grep -E "^$crate:" crates.txt >> "$folder/crates.txt"
-done
-cd "$folder"
-rt new crates/core_bench start_io > new.log
-rm -rf crates/core_bench/specs crates/core_bench/proofs crates/core_bench/src crates/core_bench/stdin crates/core_bench/stdout
-echo "core_bench: cw_base cw_code cw_order cw_tree cw_trace cw_xconf cw_stack cw_open cw_core" >> crates.txt
-mkdir -p crates/core_bench/src
-cat > crates/core_bench/src/main.rt <<'PROGRAM'
+. "$(dirname "$0")/lib.sh"
+make_folder
+copy_crates cw_base cw_code cw_order cw_tree cw_open cw_stack cw_trace cw_xconf cw_core
+new_program core_bench cw_base cw_code cw_order cw_tree cw_trace cw_xconf cw_stack cw_open cw_core
+cat > src/main.rt <<'PROGRAM'
 //! Drives a core: the words are what is done, and how many events.
 #![tactic(auto)]
 
@@ -176,18 +166,11 @@ fn main(rt: HostRuntime) -> io::Result<()> {
     println!(&rt; "{count}")
 }
 PROGRAM
-cd crates/core_bench
-rt run -- accesses 1 > "$folder/build.log" 2>&1 || { tail -40 "$folder/build.log"; exit 1; }
-program=out/core_bench
+build accesses 1
 
 # the median of seven runs, in ns
 took() {
-  for _ in 1 2 3 4 5 6 7; do
-    begin=$(date +%s%N)
-    "$program" "$@" > /dev/null
-    end=$(date +%s%N)
-    echo $((end - begin))
-  done | sort -n | sed -n 4p
+  median_of 7 run_quietly "$@"
 }
 
 for kind in accesses outputs blocks shown cancelled turns refusals; do
@@ -200,4 +183,4 @@ for events in 10000 100000; do
   all=$(took forks "$events")
   echo "refusals in 2,000 forks: $("$program" forks "$events") events, $(((all - $(took forks 0)) / events)) ns an event, $((all / 1000000)) ms in all"
 done
-sed -n 's/^model name[^:]*: //p' /proc/cpuinfo | head -1
+show_machine

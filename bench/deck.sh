@@ -4,29 +4,16 @@
 # and a source of its own and one table of pairs for all: there the time is that of each thread. The least of five rounds.
 # The program is written into a copy of the crates, proved there and run. Usage: bench/deck.sh
 set -eu
-top=$(cd "$(dirname "$0")/.." && pwd)
-copy=$(mktemp -d)
-trap 'rm -rf "$copy"' EXIT
-mkdir "$copy/crates"
-for name in cw_base cw_deck cw_pair; do
-  mkdir "$copy/crates/$name"
-  (cd "$top/crates/$name" && tar cf - --exclude=out .) | tar xf - -C "$copy/crates/$name"
-done
-cp "$top/HANDLES" "$copy"
-printf 'cw_base:\ncw_deck: atomic_blocks crossbeam_deque cw_base\ncw_pair: atomic_table cw_base\n' > "$copy/crates.txt"
-cd "$copy"
-rt new crates/deck_times start_io > /dev/null
-echo 'deck_times: cw_base cw_deck cw_pair' >> crates.txt
-cd crates/deck_times
-rm -f src/clock.rt
-: > stdin
-: > stdout
+. "$(dirname "$0")/lib.sh"
+make_folder
+copy_crates cw_base cw_deck cw_pair
+new_program deck_times anyhow cw_base cw_deck cw_pair
 mkdir -p proofs/opened
 cat > proofs/opened/Invariants.antt <<'PROOF'
 use Rattle.deck_times.proofs.opened.Given as goal
 
-abbrev pub ghosts-named : goal.ghosts-named
-ghosts-named g a = record { table = a.opened }
+abbrev pub ghosts-run : goal.ghosts-run
+ghosts-run g a = record { table = a.opened }
 PROOF
 cat > src/main.rt <<'PROGRAM'
 // Times the calls of deques and pairs, on one thread and on four.
@@ -246,7 +233,5 @@ fn main(rt: HostRuntime) -> anyhow::Result<()> {
     Ok(())
 }
 PROGRAM
-sed -i 's/^deck_times: .*/deck_times: anyhow cw_base cw_deck cw_pair/' ../../crates.txt
-sed -i 's/ghosts-named/ghosts-run/g' proofs/opened/Invariants.antt
-rt run > "$copy/log" 2>&1 || { cat "$copy/log"; exit 1; }
-./out/deck_times
+build
+"$program"

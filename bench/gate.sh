@@ -9,6 +9,7 @@
 # keeps from earlier runs is not proved again: give --anew for the cost from nothing. Other work makes each second dearer.
 # Usage: bench/gate.sh [--anew] [CRATE..]; what rt says goes to standard error, and its status is that of the script.
 set -uo pipefail
+. "$(dirname "$0")/lib.sh"
 
 declare -A label spent
 hertz=$(getconf CLK_TCK)
@@ -29,13 +30,6 @@ name_of() {
       ;;
   esac
   [ -n "${crate:-}" ] && name="$crate $kind"
-}
-
-# fields_of PID: the fields of /proc/PID/stat behind the name of the program, or an error if the process has gone
-fields_of() {
-  local line
-  { read -r line < "/proc/$1/stat"; } 2> /dev/null || return 1
-  read -r -a fields <<< "${line##*) }"
 }
 
 # sample RT: adds up what the rattle processes below the process RT have taken until now, each with the kernels that it starts

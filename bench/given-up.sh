@@ -4,22 +4,13 @@
 # square of the depth. Prints ms (the median of seven runs) and what the cell and the outputs are; the machine is named last.
 # Usage: bench/given-up.sh, at the repository's top. The crates beneath the program are proved first, where no check kept them.
 set -eu
-folder=$(mktemp -d)
-trap 'rm -rf "$folder"' EXIT
-mkdir "$folder/crates"
+. "$(dirname "$0")/lib.sh"
+make_folder
 crates='cw_base cw_code cw_text cw_strand cw_compile cw_job cw_tree cw_open cw_serial cw_record'
-for crate in $crates; do
-  mkdir "$folder/crates/$crate"
-  for part in src specs proofs; do if [ -d "crates/$crate/$part" ]; then cp -r "crates/$crate/$part" "$folder/crates/$crate/"; fi; done
-  grep -E "^$crate:" crates.txt >> "$folder/crates.txt"
-done
-cd "$folder"
-rt new crates/deep_bench start_io > new.log
-rm -rf crates/deep_bench/specs crates/deep_bench/proofs crates/deep_bench/src crates/deep_bench/stdin crates/deep_bench/stdout
-echo "deep_bench: $crates" >> crates.txt
-mkdir -p crates/deep_bench/src
-cat > crates/deep_bench/src/main.rt <<'PROGRAM'
-//! Runs blocks in each other, so many as the word says, each of which is given up.
+copy_crates $crates
+new_program deep_bench $crates
+cat > src/main.rt <<'PROGRAM'
+//! Runs blocks in each other, as many as the word says. Each of them is given up.
 #![tactic(auto)]
 
 use cw_base::Seq;
@@ -53,21 +44,10 @@ fn main(rt: HostRuntime) -> io::Result<()> {
     Ok(())
 }
 PROGRAM
-cd crates/deep_bench
-rt run -- 1 > "$folder/build.log" 2>&1 || { tail -40 "$folder/build.log"; exit 1; }
-program=out/deep_bench
-
-# the median of seven runs, in ms
-took() {
-  for _ in 1 2 3 4 5 6 7; do
-    begin=$(date +%s%N)
-    "$program" "$@" > /dev/null
-    end=$(date +%s%N)
-    echo $(((end - begin) / 1000000))
-  done | sort -n | sed -n 4p
-}
+build 1
 
 for deep in 1000 5000; do
-  echo "$deep deep: $(took "$deep") ms, $("$program" "$deep")"
+  time=$(median_of 7 run_quietly "$deep")
+  echo "$deep deep: $((time / 1000000)) ms, $("$program" "$deep")"
 done
-sed -n 's/^model name[^:]*: //p' /proc/cpuinfo | head -1
+show_machine

@@ -4,11 +4,10 @@
 # most memory that one took.
 # Usage: bench/language.sh PROGRAM, with the program as the gate builds it: crates/cwstm/out/cwstm, once `rt ci` has passed.
 set -eu
-program=$1
-folder=$(mktemp -d)
-trap 'rm -rf "$folder"' EXIT
+. "$(dirname "$0")/lib.sh"
+use_program "${1:-}"
 
-# source COUNT: so many functions and their calls
+# source_of COUNT: prints a source with this many functions, and their calls
 source_of() {
   echo 'cell c = -7; cell d[16] = 3;'
   seq "$1" | sed 's/.*/fn part&(first, second) {\n  let sum = first * 2 + second % 5;\n  while sum < 10 { sum = sum + 1; }\n  if sum > second { d[sum % 16] = sum \/ 3; } else { return -sum; }\n  spawn { atomic { c = c + !(sum == 4); } }\n  sync;\n  return d[first % 16] - 1;\n}/'
@@ -18,13 +17,8 @@ source_of() {
 }
 
 for count in 450 900 1800 3600; do
-  source_of "$count" > "$folder/source.cw"
-  begin=$(date +%s%N)
-  for _ in 1 2 3; do "$program" run --workers 1 < "$folder/source.cw" > "$folder/text"; done
-  end=$(date +%s%N)
-  memory=unknown
-  if [ -x /usr/bin/time ]; then
-    memory=$(/usr/bin/time -f '%M KiB' "$program" run --workers 1 < "$folder/source.cw" 2>&1 > /dev/null)
-  fi
-  echo "$count functions: $(wc -c < "$folder/source.cw") bytes, $(((end - begin) / 3000000)) ms, $memory, $(head -1 "$folder/text")"
+  source_of "$count" > source.cw
+  time=$(mean_of 3 run_file source.cw run --workers 1)
+  memory=$(most_memory "$program" run --workers 1 < source.cw)
+  echo "$count functions: $(wc -c < source.cw) bytes, $((time / 1000000)) ms, $memory, $(head -1 text)"
 done

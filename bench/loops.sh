@@ -3,19 +3,12 @@
 # each, and prints the time of one run (the mean of three), the most memory that one took, and the instructions in a second.
 # Usage: bench/loops.sh PROGRAM, with the program as the gate builds it: crates/cwstm/out/cwstm, once `rt ci` has passed.
 set -eu
-program=$1
-folder=$(mktemp -d)
-trap 'rm -rf "$folder"' EXIT
+. "$(dirname "$0")/lib.sh"
+use_program "${1:-}"
 
 for rounds in 1000000 10000000; do
-  echo "fn main() { let i = 0; while i < $rounds { i = i + 1; } out i; }" > "$folder/source.cw"
-  begin=$(date +%s%N)
-  for _ in 1 2 3; do "$program" run --workers 1 --fuel 1000000000 < "$folder/source.cw" > "$folder/text"; done
-  end=$(date +%s%N)
-  time=$(((end - begin) / 3000000))
-  memory=unknown
-  if [ -x /usr/bin/time ]; then
-    memory=$(/usr/bin/time -f '%M KiB' "$program" run --workers 1 --fuel 1000000000 < "$folder/source.cw" 2>&1 > /dev/null)
-  fi
-  echo "$rounds rounds: $time ms, $memory, $((rounds * 11 / (time > 0 ? time : 1) / 1000)) million instructions a second, $(tr '\n' ' ' < "$folder/text")"
+  echo "fn main() { let i = 0; while i < $rounds { i = i + 1; } out i; }" > source.cw
+  time=$(mean_of 3 run_file source.cw run --workers 1 --fuel 1000000000)
+  memory=$(most_memory "$program" run --workers 1 --fuel 1000000000 < source.cw)
+  echo "$rounds rounds: $((time / 1000000)) ms, $memory, $((rounds * 11000 / time)) million instructions a second, $(tr '\n' ' ' < text)"
 done

@@ -3,32 +3,16 @@
 # Prints nanoseconds a transfer of `run` of `cw_pool` alone, and of the check of its record beside it: by the differences of two sizes, so
 # that what a run costs however short it is has no part in it; and that too, by a run of an empty main, with room for 1,000 and for
 # 262,144 strands. A transfer of 20,000 with room for 1,000 strands is shown beside. Reading and compiling are not timed. Each time is the
-# least of so many runs. Where valgrind is there, the instructions of 5,000 transfers by 1 and 2 workers too, with reading, compiling and
+# least of ROUNDS runs (9 by default). If valgrind is there, the instructions of 5,000 transfers by 1 and 2 workers too, with reading, compiling and
 # the check: in all, of the workers and of the run with what they call, and by function.
 # The program is written into a copy of the crates, proved there and run; the crates beneath it are proved first, where no check kept them.
 # Usage: bench/pool.sh [ROUNDS]
 set -eu
-top=$(cd "$(dirname "$0")/.." && pwd)
+. "$(dirname "$0")/lib.sh"
 rounds=${1:-9}
-copy=$(mktemp -d)
-trap 'rm -rf "$copy"' EXIT
-mkdir "$copy/crates"
-cp "$top/HANDLES" "$top/crates.txt" "$copy"
-for crate in "$top"/crates/*; do
-  name=$(basename "$crate")
-  case $name in tests_*) continue ;; esac
-  mkdir "$copy/crates/$name"
-  (cd "$crate" && tar cf - --exclude=out .) | tar xf - -C "$copy/crates/$name"
-done
-cd "$copy"
-sed -i '/^tests_/d' crates.txt
-rt new crates/pool_times start_io > new.log
-rm -rf crates/pool_times/specs crates/pool_times/proofs crates/pool_times/src
-echo 'pool_times: anyhow cw_base cw_io cw_code cw_text cw_strand cw_compile cw_job cw_record cw_pool' >> crates.txt
-cd crates/pool_times
-: > stdin
-: > stdout
-mkdir src
+make_folder
+copy_crates $(cd "$root/crates" && printf '%s\n' * | grep -v '^tests_')
+new_program pool_times anyhow cw_base cw_io cw_code cw_text cw_strand cw_compile cw_job cw_record cw_pool
 cat > src/main.rt <<'PROGRAM'
 //! Times runs of the program on standard input. The words: workers, strands, and how many runs. Prints the least nanoseconds of a run and of
 //! the check of its record.
@@ -158,7 +142,7 @@ fn once<R: Threads + Wait + Sync + Clock>(
     time_run(rt, alloc, program, workers, strands)
 }
 
-/// The least times of so many runs.
+/// The least times of these runs.
 fn least_of<R: Threads + Wait + Sync + Clock>(
     rt: &R,
     alloc: Global,
@@ -209,33 +193,14 @@ fn main(rt: HostRuntime) -> anyhow::Result<()> {
 }
 PROGRAM
 
-# source TRANSFERS: cells and amounts by a linear congruential generator
-source_of() {
-  awk -v n="$1" 'BEGIN {
-    print "cell a[64] = 1000;"
-    print "fn t(i, j, x) { atomic { a[i] = a[i] - x; a[j] = a[j] + x; } }"
-    s = 1
-    for (k = 0; k < n; k++) {
-      if (k % 16 == 0) printf "%sfn g%d() {", (k ? " }\n" : ""), k / 16
-      s = (s * 1103515245 + 12345) % 2147483648; i = int(s / 65536) % 64
-      s = (s * 1103515245 + 12345) % 2147483648; j = int(s / 65536) % 64
-      printf " spawn { t(%d, %d, %d); }", i, j, k % 100
-    }
-    if (n) print " }"
-    printf "fn main() {"
-    for (k = 0; k < n; k += 16) printf " spawn { g%d(); }", k / 16
-    print " sync; }"
-  }'
-}
-
-source_of 0 > "$copy/0.cw"
-rt run -- 1 1000 1 < "$copy/0.cw" > "$copy/build.log" 2>&1 || { tail -40 "$copy/build.log"; exit 1; }
-for transfers in 1000 5000 20000; do source_of "$transfers" > "$copy/$transfers.cw"; done
+source_of_transfers 0 > "$folder/0.cw"
+build 1 1000 1 < "$folder/0.cw"
+for transfers in 1000 5000 20000; do source_of_transfers "$transfers" > "$folder/$transfers.cw"; done
 
 # times TRANSFERS WORKERS STRANDS: the nanoseconds of a run and of its check
 times() {
   local said
-  said=$(./out/pool_times "$2" "$3" "$rounds" < "$copy/$1.cw")
+  said=$("$program" "$2" "$3" "$rounds" < "$folder/$1.cw")
   case $said in
     *[!0-9\ ]*) echo "$1 transfers, $2 workers, $3 strands: $said" >&2; exit 1 ;;
   esac
@@ -261,14 +226,12 @@ for workers in 1 2 4; do
   read -r run check < <(times 20000 "$workers" 1000)
   echo "$workers workers, 20000 transfers, room for 1000 strands: run $((run / 20000)) ns a transfer, check $((check / 20000)) ns"
 done
-sed -n 's/^model name[^:]*: //p' /proc/cpuinfo | head -1
+show_machine
 if command -v valgrind > valgrind.path; then
   for workers in 1 2; do
-    valgrind --tool=callgrind --callgrind-out-file=callgrind.out ./out/pool_times "$workers" 262144 1 < "$copy/5000.cw" > one.told 2> callgrind.log
+    instructions_of callgrind.out "$program" "$workers" 262144 1 < "$folder/5000.cw" > one.told
     echo "$workers workers, 5000 transfers, instructions:"
-    {
-      callgrind_annotate --inclusive=yes callgrind.out | grep -E 'PROGRAM TOTALS|recording::run::|Worker::work|Play::pick'
-      callgrind_annotate callgrind.out | grep -E '^ *[0-9,]+ \(.*:' | head -16
-    } 2> annotate.log | sed -e 's/ \[[^]]*\]$//' -e 's/[^ ]*\/\([^/]*\)$/\1/'
+    callgrind_annotate --inclusive=yes callgrind.out 2> annotate.log | grep -E 'PROGRAM TOTALS|recording::run::|Worker::work|Play::pick' | short_names
+    dearest callgrind.out 16
   done
 fi

@@ -9,19 +9,18 @@
 # the crate, with the crates below it proved. Other work on the machine makes each second dearer.
 # Usage: bench/proofs.sh CRATE [--test], at the repository's top; with --test its tests are proved too, and none is run.
 set -euo pipefail
+. "$(dirname "$0")/lib.sh"
 crate=$1
 shift
 cd "crates/$crate"
-folder=$(mktemp -d)
-trap 'rm -rf "$folder"' EXIT
+make_folder
 
 # Writes the time of day and the processor seconds that the checks of this crate, in this folder, have taken until now.
 declare -A taken
 sample() {
-  local process line fields sum=0
+  local process fields sum=0
   for process in $(pgrep -f "rattle check --crate-name $crate "); do
-    if [ "$(readlink "/proc/$process/cwd")" = "$PWD" ] && { read -r line < "/proc/$process/stat"; } 2> /dev/null; then
-      read -r -a fields <<< "${line##*) }"
+    if [ "$(readlink "/proc/$process/cwd")" = "$PWD" ] && fields_of "$process"; then
       taken[$process]=$((fields[11] + fields[12]))
     fi
   done

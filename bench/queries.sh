@@ -6,21 +6,13 @@
 # asks nothing; the machine is named last.
 # Usage: bench/queries.sh, at the repository's top. The crates beneath the program are proved first, where no check kept them.
 set -eu
-folder=$(mktemp -d)
-trap 'rm -rf "$folder"' EXIT
-mkdir "$folder/crates"
+. "$(dirname "$0")/lib.sh"
+make_folder
 crates='cw_base cw_code cw_order cw_tree cw_trace cw_xconf'
-for crate in $crates; do
-  mkdir "$folder/crates/$crate"
-  for part in src specs proofs; do if [ -d "crates/$crate/$part" ]; then cp -r "crates/$crate/$part" "$folder/crates/$crate/"; fi; done
-  grep -E "^$crate:" crates.txt >> "$folder/crates.txt"
-done
-cd "$folder"
-rt new crates/query_bench start_io > new.log
-rm -rf crates/query_bench/specs crates/query_bench/proofs crates/query_bench/src crates/query_bench/stdin crates/query_bench/stdout
-echo "query_bench: $crates" >> crates.txt
-mkdir -p crates/query_bench/src crates/query_bench/proofs/main
-cat > crates/query_bench/proofs/main/Invariants.antt <<'PROOF'
+copy_crates $crates
+new_program query_bench $crates
+mkdir -p proofs/main
+cat > proofs/main/Invariants.antt <<'PROOF'
 use Rattle.query_bench.proofs.main.Given as goal
 
 abbrev pub ghosts-asks-K-Ledger : goal.ghosts-asks-K-Ledger
@@ -29,7 +21,7 @@ ghosts-asks-K-Ledger a = record { name = a.blanks.0.name; parts = a.blanks.0.par
 abbrev pub ghosts-asks-L-Ledger : goal.ghosts-asks-L-Ledger
 ghosts-asks-L-Ledger a = record { name = a.blanks.1.name; parts = a.blanks.1.parts }
 PROOF
-cat > crates/query_bench/src/main.rt <<'PROGRAM'
+cat > src/main.rt <<'PROGRAM'
 //! Asks many times of one tier: the words are what is asked, how deep or wide the tier is, and how often.
 #![tactic(auto)]
 
@@ -65,7 +57,7 @@ fn next(state: u64) -> u64 {
         .wrapping_add(1_442_695_040_888_963_407)
 }
 
-/// How many of so many questions were answered Within or Against: marks and askers are drawn, or are a few again and again.
+/// How many of `rounds` questions were answered Within or Against: marks and askers are drawn, or are a few again and again.
 fn asks<K: Ledger, L: Ledger>(
     blanks: (Blank, Blank),
     tier: &Tier,
@@ -95,7 +87,7 @@ fn asks<K: Ledger, L: Ledger>(
     count
 }
 
-/// How many of so many walks up a tree found a conflict: from its deepest access, with an asker beside the root's block.
+/// How many of `rounds` walks up a tree found a conflict: from its deepest access, with an asker beside the root's block.
 fn walks(tree: &Tree, deep: u32, rounds: u32) -> u64 {
     let mut count: u64 = 0;
     for k in 0..rounds {
@@ -107,7 +99,7 @@ fn walks(tree: &Tree, deep: u32, rounds: u32) -> u64 {
     count
 }
 
-/// A block, so many forks in one another in it, and an access in the innermost left strand; and the access.
+/// A block, with `depth` forks in one another in it, and an access in the innermost left strand; and the access.
 fn tall(alloc: Global, depth: u32) -> (Option<Tree>, u32) {
     let Ok(tree) = Tree::new(alloc) else {
         return (None, 0);
@@ -172,18 +164,11 @@ fn main(rt: HostRuntime) -> io::Result<()> {
     println!(&rt; "{count}")
 }
 PROGRAM
-cd crates/query_bench
-rt run -- few 1 > "$folder/build.log" 2>&1 || { tail -40 "$folder/build.log"; exit 1; }
-program=out/query_bench
+build few 1
 
 # the median of seven runs, in ns
 took() {
-  for _ in 1 2 3 4 5 6 7; do
-    begin=$(date +%s%N)
-    "$program" "$@" > /dev/null
-    end=$(date +%s%N)
-    echo $((end - begin))
-  done | sort -n | sed -n 4p
+  median_of 7 run_quietly "$@"
 }
 
 # hundredths of a ns, without the time of a run that asks nothing
@@ -194,11 +179,11 @@ for size in 1 10 100 1000 5000; do
   echo "$size traces inside one another: ask $(shown "$(each few "$size" 20000000)") ns of a few marks, $(shown "$(each random "$size" 20000000)") ns at random; conflict_plain $(shown "$(each plain "$size" $((20000000 / size)))") ns"
 done
 echo "1000001 columns: ask $(shown "$(each wide-few 500000 20000000)") ns of a few marks, $(shown "$(each wide 500000 20000000)") ns at random"
-# instructions of one ask, where valgrind is there: these do not vary with what else the machine does
-counted() { valgrind --tool=callgrind --callgrind-out-file="$folder/calls" "$program" "$@" 2>&1 > /dev/null | sed -n 's/^.*Collected : *//p'; }
+# instructions of one ask, if valgrind is there: these do not vary with what else the machine does
+counted() { instructions_of "$folder/calls" "$program" "$@"; }
 if command -v valgrind > /dev/null; then
   for size in 1 10 100 1000 5000; do
     echo "$size traces inside one another: $((($(counted few "$size" 100000) - $(counted few "$size" 0)) / 100000)) instructions an ask of a few marks, $((($(counted random "$size" 100000) - $(counted random "$size" 0)) / 100000)) at random"
   done
 fi
-sed -n 's/^model name[^:]*: //p' /proc/cpuinfo | head -1
+show_machine

@@ -3,27 +3,18 @@
 # written with a report and without. Prints the instructions of each line of the report, by callgrind where it is installed, else
 # nanoseconds (the least of five runs). A line of the longest report costs at most 1.2 times one of the shortest.
 # Usage: bench/report.sh PROGRAM, with the program as the gate builds it: crates/cwstm/out/cwstm, once `rt ci` has passed.
-# Ends with status 1 where it is not so.
+# Ends with status 1 if it is not so.
 set -eu
-program=$(realpath "${1:?the program}")
-folder=$(mktemp -d)
-trap 'rm -rf "$folder"' EXIT
-cd "$folder"
+. "$(dirname "$0")/lib.sh"
+use_program "${1:-}"
 
 # cost WORD..: what a simulation of the file `source` costs
 cost() {
-  local least=0 begin time
   if command -v valgrind > valgrind_is; then
-    valgrind --tool=callgrind --callgrind-out-file=/dev/null "$program" sim --workers 2 --aborts 1000000 "$@" < source 2>&1 > text | sed -n 's/.*Collected : //p'
-    return
+    instructions_of /dev/null "$program" sim --workers 2 --aborts 1000000 "$@" < source
+  else
+    least_of 5 run_file source sim --workers 2 --aborts 1000000 "$@"
   fi
-  for _ in 1 2 3 4 5; do
-    begin=$(date +%s%N)
-    "$program" sim --workers 2 --aborts 1000000 "$@" < source > text
-    time=$(($(date +%s%N) - begin))
-    if [ "$least" = 0 ] || [ "$time" -lt "$least" ]; then least=$time; fi
-  done
-  echo "$least"
 }
 
 first=
@@ -36,7 +27,6 @@ for count in 12500 25000 50000 100000; do
   echo "$lines refusals: $line a line"
   first=${first:-$line}
 done
-if [ $((line * 10)) -gt $((first * 12)) ]; then
-  echo '  NOT SO: a line costs more in a long report'
-  exit 1
-fi
+wrong=0
+if [ $((line * 10)) -gt $((first * 12)) ]; then miss 'a line costs more in a long report'; fi
+exit "$wrong"

@@ -6,23 +6,16 @@
 # 21 runs: the kernel counts it in batches, so that runs differ by 100 KiB), and the bytes a begin, by the pages that the program touched.
 # Usage: bench/saves.sh, at the repository's top. The crates beneath the program are proved first, where no check kept them.
 set -eu
-folder=$(mktemp -d)
-trap 'rm -rf "$folder"' EXIT
-mkdir "$folder/crates"
-for crate in cw_base cw_code cw_text cw_strand cw_compile; do
-  mkdir "$folder/crates/$crate"
-  for part in src specs proofs; do if [ -d "crates/$crate/$part" ]; then cp -r "crates/$crate/$part" "$folder/crates/$crate/"; fi; done
-done
-grep -E '^(cw_base|cw_code|cw_text|cw_strand|cw_compile):' crates.txt > "$folder/crates.txt"
-cd "$folder"
-rt new crates/saves_bench start_io > new.log
-rm -rf crates/saves_bench/specs crates/saves_bench/proofs crates/saves_bench/src crates/saves_bench/stdin crates/saves_bench/stdout
-echo 'saves_bench: cw_base cw_code cw_text cw_strand cw_compile' >> crates.txt
-mkdir -p crates/saves_bench/src crates/saves_bench/specs crates/saves_bench/proofs/{begin_kept,go_in,go_through,go_out}
-cat > crates/saves_bench/specs/Lib.antt <<'SPECS'
+. "$(dirname "$0")/lib.sh"
+make_folder
+crates='cw_base cw_code cw_text cw_strand cw_compile'
+copy_crates $crates
+new_program saves_bench $crates
+mkdir -p specs proofs/{begin_kept,go_in,go_through,go_out}
+cat > specs/Lib.antt <<'SPECS'
 pub mod Nests
 SPECS
-cat > crates/saves_bench/specs/Nests.antt <<'SPECS'
+cat > specs/Nests.antt <<'SPECS'
 -- Begins of blocks inside each other, and what is kept of them.
 use Rattle.std.specs.Prelude.{◌≡◌, ℕ, List, [], ◌∷◌}
 use Rattle.cw_code.specs.declared.Limits.{Limits}
@@ -58,8 +51,8 @@ pub record GoesOn (code : Code) (s t : State) : Type 0 where
   pub stays : StaysIn want 0
   pub stands : StandsIn code t
 SPECS
-cat > crates/saves_bench/src/main.rt <<'PROGRAM'
-//! Stands in so many blocks, keeps the begin of each, and goes back from the innermost to each. The words are whether the begins are kept,
+cat > src/main.rt <<'PROGRAM'
+//! Begins blocks in each other, keeps the begin of each, and goes back from the innermost to each. The words are whether the begins are kept,
 //! and how many blocks begin.
 #![tactic(auto)]
 
@@ -106,7 +99,7 @@ fn begin_kept(program: &Program, strand: &mut Strand, saves: &mut Stack<Saved>) 
     }
 }
 
-/// The same so many times.
+/// The same `count` times.
 fn go_in(program: &Program, strand: &mut Strand, saves: &mut Stack<Saved>, count: u32) -> Option<()>
     requires { Keeps program.now.code saves.old strand.old }
     ensures { OnSome result (Keeps program.now.code saves.new strand.new) }
@@ -159,7 +152,7 @@ fn go_out(program: &Program, strand: &mut Strand, saves: &mut Stack<Saved>) -> O
     Some((count, innermost))
 }
 
-/// Stands in so many blocks. Answers how many begins were found again, and what comes after the innermost.
+/// Begins `count` blocks in each other. Returns how many begins were found again, and what comes after the innermost.
 fn round(alloc: Global, keeps: bool, count: u32) -> Option<(u32, Want)> {
     let Ok(ast) = read_program(alloc, SOURCE.as_bytes()) else {
         return None;
@@ -205,10 +198,10 @@ fn main(rt: HostRuntime) -> io::Result<()> {
     println!(rt; "{found:?}")
 }
 PROGRAM
-cat > crates/saves_bench/proofs/Lib.antt <<'PROOFS'
+cat > proofs/Lib.antt <<'PROOFS'
 pub mod Nesting
 PROOFS
-cat > crates/saves_bench/proofs/Nesting.antt <<'PROOFS'
+cat > proofs/Nesting.antt <<'PROOFS'
 -- How begins that are kept stay so.
 use Rattle.std.proofs.Common.{◌≡◌, ℕ, suc, List, [], ◌∷◌, refl, sym, subst}
 use Rattle.cw_code.specs.declared.instruction.Code.{Code}
@@ -283,7 +276,7 @@ module _ (code : Code) where
       let h = within l forks inner b stands is inside stays nests in
       subst (Returned ks) (sym (there (back_from sound k ks x h))) (record { stands = stands.stands; nests = nests })
 PROOFS
-cat > crates/saves_bench/proofs/begin_kept/Answers.antt <<'PROOFS'
+cat > proofs/begin_kept/Answers.antt <<'PROOFS'
 use Rattle.std.proofs.Common.{sym, subst}
 use Rattle.saves_bench.specs.Nests.{Keeps}
 use Rattle.saves_bench.proofs.Nesting.{keeps_next, stands_so}
@@ -299,21 +292,21 @@ returns-in-Ok-push c =
     subst (λ ks. Keeps code ks c.begin.new.strand) (sym c.in-Ok-push.ensures.ok)
     (keeps_next code c.in-Ok.saved c.args.saves.now c.args.strand.now c.begin.new.strand c.requires begun.next begun.stands c.in-Ok.ensures)
 PROOFS
-cat > crates/saves_bench/proofs/go_in/Invariants.antt <<'PROOFS'
+cat > proofs/go_in/Invariants.antt <<'PROOFS'
 use Rattle.saves_bench.specs.Nests.{Keeps}
 use Rattle.saves_bench.proofs.go_in.Given as goal
 
 abbrev pub invariant-loop : goal.invariant-loop
 invariant-loop l = Keeps l.program.code l.saves l.strand
 PROOFS
-cat > crates/saves_bench/proofs/go_through/Invariants.antt <<'PROOFS'
+cat > proofs/go_through/Invariants.antt <<'PROOFS'
 use Rattle.cw_strand.specs.Standing.{StandsIn}
 use Rattle.saves_bench.proofs.go_through.Given as goal
 
 abbrev pub invariant-loop : goal.invariant-loop
 invariant-loop l = StandsIn l.program.code l.strand
 PROOFS
-cat > crates/saves_bench/proofs/go_out/Invariants.antt <<'PROOFS'
+cat > proofs/go_out/Invariants.antt <<'PROOFS'
 use Rattle.std.proofs.Common.{length}
 use Rattle.cw_strand.specs.declared.want.Want.{Want}
 use Rattle.saves_bench.specs.Nests.{Nests}
@@ -325,7 +318,7 @@ invariant-loop-saved l = (w : Want) × Nests l.program.code l.saves (record { wa
 abbrev pub decreases-loop-saved : goal.decreases-loop-saved
 decreases-loop-saved l = length l.saves
 PROOFS
-cat > crates/saves_bench/proofs/go_out/Answers.antt <<'PROOFS'
+cat > proofs/go_out/Answers.antt <<'PROOFS'
 use Rattle.std.proofs.Common.{◌∷◌, subst}
 use Rattle.cw_strand.specs.Running.{Standing}
 use Rattle.cw_strand.specs.Coded.{State}
@@ -368,9 +361,7 @@ loop-saved-preserved c =
     let there = returned code c.args.program.now.sound c.in-Some.saved c.pop.new.self at c.back.new.self nests c.back.ensures in
     (on.want, nests_on code c.pop.new.self c.back.new.self c.go_on-in-Some.new.strand there.nests on)
 PROOFS
-cd crates/saves_bench
-rt run -- keep 1 > "$folder/build.log" 2>&1 || { tail -40 "$folder/build.log"; exit 1; }
-program=out/saves_bench
+build keep 1
 
 # of 21 runs the median of what is named: %M is the most memory in KiB, %R the pages that were touched
 median() {
@@ -386,4 +377,4 @@ for count in 2500 5000 9999; do
   memory="$(median %M keep "$count") KiB with each kept, $(median %M none "$count") KiB with none"
   echo "$count begins: found again, and what comes next: $found; $memory; $bytes bytes a begin"
 done
-sed -n 's/^model name[^:]*: //p' /proc/cpuinfo | head -1
+show_machine

@@ -3,41 +3,26 @@
 # - a move takes as long in a run of 500, 1,000 and 2,000 spawned increments, whose workers move in turn: within 1.3 of each other;
 # - 1,000,001 moves take under 5 seconds, in less than 1 GB;
 # - a strand that is refused 80,000 times, and one that is refused 20,000 times inside 2,000 blocks, take under 2 seconds each.
-# Prints the least time of so many runs, without that of a simulation of an empty main with the same words, and says where a run is not as it has to be.
+# Prints the least time of several runs, without that of a simulation of an empty main with the same words, and says if a run is not as it
+# has to be.
 # Usage: bench/simulations.sh PROGRAM, with the program as the gate builds it: crates/cwstm/out/cwstm, once `rt ci` has passed.
-# Ends with status 1 where one is not.
+# Ends with status 1 if one is not.
 set -eu
-program=$(realpath "$1")
-folder=$(mktemp -d)
-trap 'rm -rf "$folder"' EXIT
-cd "$folder"
+. "$(dirname "$0")/lib.sh"
+use_program "${1:-}"
 wrong=0
 
-# miss TEXT: says that something is not as it has to be
-miss() {
-  echo "  NOT SO: $1"
-  wrong=1
+# simulate SOURCE WORD..: a simulation of this source, whatever its status
+simulate() {
+  run_file "$1" sim --workers 2 "${@:2}" || true
 }
 
-# least RUNS SOURCE WORD..: the least nanoseconds of a simulation of this source
-least() {
-  local runs=$1 source=$2 least=0 begin time
-  shift 2
-  for _ in $(seq "$runs"); do
-    begin=$(date +%s%N)
-    "$program" sim --workers 2 "$@" < "$source" > text || true
-    time=$(($(date +%s%N) - begin))
-    if [ "$least" = 0 ] || [ "$time" -lt "$least" ]; then least=$time; fi
-  done
-  echo "$least"
-}
-
-# time_of RUNS WORD..: the same of the file `source`, without that of an empty main; and `text` is that of the source
+# time_of RUNS WORD..: the least nanoseconds of a simulation of the file `source`, without that of an empty main; and `text` is that of the source
 time_of() {
   local runs=$1 empty whole
   shift
-  empty=$(least "$runs" empty "$@")
-  whole=$(least "$runs" source "$@")
+  empty=$(least_of "$runs" simulate empty "$@")
+  whole=$(least_of "$runs" simulate source "$@")
   echo "$((whole > empty ? whole - empty : 1))"
 }
 
@@ -50,14 +35,14 @@ wants() {
   [ "$(tr '\n' '/' < text)" = "$text" ] || miss "text $(head -c 100 text | tr '\n' '/'), wanted $text"
 }
 
-# turns COUNT WORKER..: these workers over and over, so many numbers in all, with commas between them
+# turns COUNT WORKER..: these workers over and over, COUNT numbers in all, with commas between them
 turns() {
   local count=$1
   shift
   yes "$(printf '%s\n' "$@")" | head -n "$count" | paste -sd,
 }
 
-# below WHAT TIME LIMIT: prints a time in nanoseconds, which has to be below so many milliseconds
+# below WHAT TIME LIMIT: prints a time in nanoseconds, which has to be below LIMIT milliseconds
 below() {
   echo "$1: $(($2 / 1000000)) ms"
   [ "$2" -lt "$(($3 * 1000000))" ] || miss "wanted under $3 ms"

@@ -3,19 +3,15 @@
 # and one of 200 nested blocks, and prints the time of one run (the mean of three) and the most memory that one took.
 # Usage: bench/spawned.sh PROGRAM, with the program as the gate builds it: crates/cwstm/out/cwstm, once `rt ci` has passed.
 set -eu
-program=$1
-folder=$(mktemp -d)
-trap 'rm -rf "$folder"' EXIT
+. "$(dirname "$0")/lib.sh"
+use_program "${1:-}"
 
+# measure NAME: runs the file `source.cw`, which has this name
 measure() {
-  local begin end memory=unknown
-  begin=$(date +%s%N)
-  for _ in 1 2 3; do "$program" run --workers 1 < "$folder/source.cw" > "$folder/text"; done
-  end=$(date +%s%N)
-  if [ -x /usr/bin/time ]; then
-    memory=$(/usr/bin/time -f '%M KiB' "$program" run --workers 1 < "$folder/source.cw" 2>&1 > /dev/null)
-  fi
-  echo "$1: $(wc -c < "$folder/source.cw") bytes, $(((end - begin) / 3000000)) ms, $memory, $(tr '\n' ' ' < "$folder/text")"
+  local time memory
+  time=$(mean_of 3 run_file source.cw run --workers 1)
+  memory=$(most_memory "$program" run --workers 1 < source.cw)
+  echo "$1: $(wc -c < source.cw) bytes, $((time / 1000000)) ms, $memory, $(tr '\n' ' ' < text)"
 }
 
 for count in 1000 10000 30000; do
@@ -23,7 +19,7 @@ for count in 1000 10000 30000; do
     echo 'cell c; fn main() {'
     for _ in $(seq "$count"); do echo 'spawn{atomic{c=c+1;}}'; done
     echo '}'
-  } > "$folder/source.cw"
+  } > source.cw
   measure "$count spawned increments"
 done
 
@@ -33,5 +29,5 @@ done
   for _ in $(seq 199); do echo 'c = c + 1; atomic {'; done
   for _ in $(seq 199); do echo '}'; done
   echo '}'
-} > "$folder/source.cw"
+} > source.cw
 measure 'blocks in each other'

@@ -5,20 +5,11 @@
 # of a tier for 1,000,000 strands with its gap words.
 # Usage: bench/tier.sh, at the repository's top. The crates beneath the program are proved first, where no check kept them.
 set -eu
-folder=$(mktemp -d)
-trap 'rm -rf "$folder"' EXIT
-mkdir "$folder/crates"
-for crate in cw_base cw_code cw_order cw_tree cw_trace; do
-  mkdir "$folder/crates/$crate"
-  for part in src specs proofs; do if [ -d "crates/$crate/$part" ]; then cp -r "crates/$crate/$part" "$folder/crates/$crate/"; fi; done
-done
-grep -E '^(cw_base|cw_code|cw_order|cw_tree|cw_trace):' crates.txt > "$folder/crates.txt"
-cd "$folder"
-rt new crates/tier_bench start_io > new.log
-rm -rf crates/tier_bench/specs crates/tier_bench/proofs crates/tier_bench/src crates/tier_bench/stdin crates/tier_bench/stdout
-echo 'tier_bench: cw_base cw_order cw_tree cw_trace' >> crates.txt
-mkdir crates/tier_bench/src
-cat > crates/tier_bench/src/main.rt <<'PROGRAM'
+. "$(dirname "$0")/lib.sh"
+make_folder
+copy_crates cw_base cw_code cw_order cw_tree cw_trace
+new_program tier_bench cw_base cw_order cw_tree cw_trace
+cat > src/main.rt <<'PROGRAM'
 //! Makes many calls of an order list or a tier: the words are what is called, and how often.
 #![tactic(auto)]
 
@@ -60,7 +51,7 @@ fn insertions(alloc: Global, n: u32) {
     }
 }
 
-/// So many forks of the root, each split and merged at once where that is asked for.
+/// Makes `n` forks of the root, and splits and merges each at once if that is asked for.
 fn flat(tier: &mut Tier, n: u32, splits: bool, merges: bool) {
     for _ in 0..n {
         let left = fork(tier, 0);
@@ -73,7 +64,7 @@ fn flat(tier: &mut Tier, n: u32, splits: bool, merges: bool) {
     }
 }
 
-/// So many forks in each other, split from the outermost in and merged from the innermost out where that is asked for.
+/// Makes `n` forks in each other. If that is asked for, splits them from the outermost in and merges them from the innermost out.
 fn nested(tier: &mut Tier, n: u32, splits: bool) {
     let mut last = 0;
     for _ in 0..n {
@@ -89,7 +80,7 @@ fn nested(tier: &mut Tier, n: u32, splits: bool) {
     }
 }
 
-/// A million calls for a fork behind so many strands that were taken back, in the left strand of a fork that is not split.
+/// Makes `calls` calls for a fork behind `n` strands that were taken back, in the left strand of a fork that is not split.
 fn early(tier: &mut Tier, n: u32, calls: u32) {
     let mut last = fork(tier, 0);
     for _ in 0..n {
@@ -153,23 +144,14 @@ fn main(rt: HostRuntime) -> io::Result<()> {
     Ok(())
 }
 PROGRAM
-cd crates/tier_bench
-rt run -- fork 1 > "$folder/build.log" 2>&1 || { tail -20 "$folder/build.log"; exit 1; }
-program=out/tier_bench
+build fork 1
 
 # the least time of five runs, in ns
 took() {
-  local least=0 begin end
-  for _ in 1 2 3 4 5; do
-    begin=$(date +%s%N)
-    "$program" "$@"
-    end=$(date +%s%N)
-    if [ "$least" = 0 ] || [ $((end - begin)) -lt "$least" ]; then least=$((end - begin)); fi
-  done
-  echo "$least"
+  least_of 5 run_quietly "$@"
 }
 
-# so many rounds that each size makes as many calls
+# each size has as many rounds as make a million calls
 for n in 10000 100000 1000000; do
   rounds=$((1000000 / n))
   empty=$(took none $((n / 2)) "$rounds")
@@ -184,6 +166,4 @@ for n in 1000 10000 30000; do
   echo "$n nested forks: $((($(took long "$n") - $(took nested "$n")) * 100 / looked)) / 100 ns a column looked at"
 done
 echo "Early behind 100000 strands: $((($(took early 100000) - $(took behind 100000)) / 1000000)) ns"
-if [ -x /usr/bin/time ]; then
-  echo "a tier for 1000000 strands with its words: $(/usr/bin/time -f '%M KiB' "$program" fork 500000 2>&1 > /dev/null)"
-fi
+echo "a tier for 1000000 strands with its words: $(most_memory "$program" fork 500000)"

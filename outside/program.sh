@@ -5,11 +5,8 @@
 # Usage: outside/program.sh PROGRAM, with the program as the gate builds it: crates/cwstm/out/cwstm, once `rt ci` has passed.
 # Ends with the line 'N passed, M failed', and with status 1 where one failed.
 set -u
-program=$(realpath "${1:?the program}")
-root=$(realpath "$(dirname "$0")/..")
-folder=$(mktemp -d)
-trap 'rm -rf "$folder"' EXIT
-cd "$folder" || exit 1
+. "$(dirname "$0")/../bench/lib.sh" || exit 1
+use_program "${1:-}"
 passed=0
 failed=0
 
@@ -34,7 +31,7 @@ try() {
   judge "$name" "$got" "$status" "$text" "$note"
 }
 
-# within SECONDS MEGABYTES NAME STATUS TEXT NOTE WORD..: the same with so much time of a processor and so much memory
+# within SECONDS MEGABYTES NAME STATUS TEXT NOTE WORD..: the same, with this time of a processor and this memory at most
 within() {
   local seconds=$1 megabytes=$2 name=$3 status=$4 text=$5 note=$6 got
   shift 6

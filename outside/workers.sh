@@ -5,17 +5,14 @@
 # wrong, too. For status 8 the whole program is printed: the record of that run did not replay, so it is a bug.
 # It takes minutes, and is run by hand.
 # Usage: outside/workers.sh PROGRAM [TIMES] [GENERATED] [EACH], with the program as the gate builds it: crates/cwstm/out/cwstm, once `rt ci` has
-# passed. TIMES: runs of each program with each number of workers (500); GENERATED: so many generated programs (200), each run EACH times (50).
+# passed. TIMES: runs of each program with each number of workers (500); GENERATED: how many generated programs (200), each run EACH times (50).
 # Ends with a table of statuses and the line 'N runs, of which K had a spawn in their program, M wrong', and with status 1 if one is wrong.
 set -u
-program=$(realpath "${1:?the program}")
+. "$(dirname "$0")/../bench/lib.sh" || exit 1
+use_program "${1:-}"
 times=${2:-500}
 generated=${3:-200}
 each=${4:-50}
-root=$(realpath "$(dirname "$0")/..")
-folder=$(mktemp -d)
-trap 'rm -rf "$folder"' EXIT
-cd "$folder" || exit 1
 numbers=(2 3 4 8)
 runs=0
 forking=0
@@ -146,10 +143,8 @@ done
 
 # ## Generated programs
 
-# the generator: `source_of SEED`
-eval "$(sed -n '/^source_of() {$/,/^}$/p' "$root/bench/one-worker.sh")"
 for seed in $(seq "$generated"); do
-  source_of "$seed" > source
+  source_of_seed "$seed" > source
   words=("$((seed % 5))" "$((seed % 3 + 1))")
   alone "${words[@]}"
   for turn in $(seq "$each"); do

@@ -5,7 +5,7 @@
 # A crate takes the time of its proof, or less where `rt check` has proved it on this machine, and then about 10 to 100 seconds an edit.
 # Usage: outside/wrong-bodies.sh [CRATE..]; without a crate, all that have wrong bodies.
 set -u
-root=$(realpath "$(dirname "$0")/..")
+. "$(dirname "$0")/../bench/lib.sh" || exit 1
 if [ $# = 0 ]; then
   cd "$root/wrong-bodies" || exit 1
   set -- *
@@ -16,8 +16,7 @@ for crate; do
     exit 1
   fi
 done
-folder=$(mktemp -d)
-trap 'rm -rf "$folder"' EXIT
+make_folder
 git clone -q "$root" "$folder/copy" || exit 1
 cd "$folder/copy" || exit 1
 rm -rf crates/*/must-fail
