@@ -1,3 +1,5 @@
 pub mod Positions
 pub mod Orders
 pub mod Walks
+pub mod Lines
+pub mod BothLines

@@ -1,3 +1,5 @@
 pub mod Orders
 pub mod Laws
+pub mod Lines
+pub mod InMemory
 pub mod Worked

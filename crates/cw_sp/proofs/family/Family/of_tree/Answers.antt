@@ -1,0 +1,21 @@
+use Rattle.std.proofs.Common.{arith, ap, ◌<◌, length, rules}
+use Rattle.cw_tree.proofs.Walks.Children.{met_start, met_step, met_end_last, met_end_before}
+use Rattle.cw_sp.proofs.family.Family.of_tree.Goals as goal
+
+pub loop-n-init : goal.loop-n-init
+loop-n-init c =
+    met_start c.args.tree.now (length c.nodes-count.result.now) c.in_ok-last.last.items c.in_ok-before.before.items (ap length c.nodes-count.ensures.nodes)
+    (c.in_ok-last.ensures.items_if_clones_equal (λ y e. search rules)) (c.in_ok-before.ensures.items_if_clones_equal (λ y e. search rules))
+
+pub loop-n-preserved : goal.loop-n-preserved
+loop-n-preserved c =
+    let there : c.loop-n.n < length c.args.tree.now = omega (arith, ap length c.nodes-count.ensures.nodes) in
+    met_step c.args.tree.now c.loop-n.n c.loop-n.last.items c.loop-n.before.items c.loop-n.invariant there c.parent-parent.result (c.parent-parent.ensures.low c.loop-n.invariant.some) c.parent-parent.ensures.parent
+    c.index.result.now c.index.ensures
+
+pub returns-clause-last : goal.returns-clause-last
+returns-clause-last c =
+    met_end_last c.args.tree.now c.loop-n.n c.loop-n.last.items c.loop-n.before.items c.loop-n.invariant (omega (arith, ap length c.nodes-count.ensures.nodes)) (λ h. omega (arith, ap length c.nodes-count.ensures.nodes))
+
+pub returns-clause-before : goal.returns-clause-before
+returns-clause-before c = met_end_before c.args.tree.now c.loop-n.n c.loop-n.last.items c.loop-n.before.items c.loop-n.invariant (omega (arith, ap length c.nodes-count.ensures.nodes))
