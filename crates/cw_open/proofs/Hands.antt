@@ -8,4 +8,6 @@ pub mod Joined
 pub mod Judged
 pub mod Looked
 pub mod Met
+pub mod PutBack
 pub mod Timed
+pub mod Unfinished

@@ -1,19 +1,20 @@
 -- A small run with two strands in blocks of their own. One of them writes, and ends its block. What is around the other stays, and so
 -- does what that one learned of the write, and what it found beneath its own block.
-use Rattle.std.specs.Prelude.{◌≡◌, ℕ, ℤ, List, [], ◌∷◌, ◌++◌, Some, None, true, false, pos}
-use Rattle.cw_tree.specs.Nodes.{is_pending}
-use Rattle.cw_tree.specs.Walks.{nua, is_ancestor}
+use Rattle.std.specs.Prelude.{◌≡◌, ℤ, ◌&&◌, not, List, [], ◌∷◌, ◌++◌, map, Some, None, true, false, pos}
+use Rattle.cw_code.specs.declared.Back.{Back}
+use Rattle.cw_tree.specs.Nodes.{is_fork, is_pending}
+use Rattle.cw_tree.specs.Walks.{has, nua}
 use Rattle.cw_tree.specs.Series.{place, children, parallel}
-use Rattle.cw_tree.specs.Attempts.{block_attempt}
+use Rattle.cw_tree.specs.Accesses.{is_live}
 use Rattle.cw_tree.specs.AccessStacks.{access_at}
 use Rattle.cw_tree.specs.VictimsAt.{victim_at}
 use Rattle.cw_tree.specs.Newest.{newest}
 use Rattle.cw_open.specs.Machine.{OpenMachine, live, is_free}
-use Rattle.cw_open.specs.Steps.{Step, forks, begins, accesses, outputs, commits, after_all, first_machine}
+use Rattle.cw_open.specs.Steps.{Step, forks, begins, accesses, refuses, commits, live_beside, puts_back, after_all, first_machine}
 use Rattle.cw_open.specs.Runs.{IsRun, IsMet, at_any_time}
 use Rattle.cw_open.specs.Around.{blocks_at, begins_at}
 use Rattle.cw_open.specs.Judged.{IsBarredBy, met_of}
-use Rattle.cw_open.specs.Looked.{IsBeneath, accesses_of, IsFound}
+use Rattle.cw_open.specs.Looked.{IsBeneath, IsFound, IsListFound}
 
 -- two cells, which have the value 0
 abbrev pub two_cells : List ℤ
@@ -69,3 +70,29 @@ pub record TwoBlocks : Type 0 where
   pub found : IsFound (led_to both_wrote) 6 1 true (pos 0)
   pub still_found : IsFound (led_to left_closed) 6 1 true (pos 0)
   pub not_found : IsFound (led_to both_wrote) 6 0 false (pos 0)
+
+-- ## What is put back, and who is free
+
+-- the right strand tries to read the first cell, which the block of the left one bars from it; its own block has to fall
+abbrev pub right_refused : List Step
+right_refused = both_wrote ++ refuses 4 0 None (met_of 5 3) ∷ []
+
+abbrev pub second_zero : List Back
+second_zero = record { cell = 1; value = pos 0 } ∷ []
+
+pub record PutBackRows : Type 0 where
+  -- what was found of the second cell is what the right strand puts back; without it the list would lack something
+  pub is_found : IsListFound (led_to both_wrote) 6 second_zero
+  pub put_back : puts_back (led_to both_wrote) 4 7 ≡ second_zero
+  pub lacks : IsListFound (led_to both_wrote) 6 [] → ⊥
+  pub before : live_beside (led_to both_wrote) 6 1 ≡ []
+  -- main waits for the fork alone, and the strands of that are live
+  pub waits : (is_fork (led_to both_wrote).tree 2 && not (has (led_to both_wrote).joined 2)) ≡ true
+  pub lives : is_live (led_to both_wrote).tree 4 ≡ true
+  -- the right strand is free, until its block is the victim of its own access
+  pub goes_free : is_free (led_to both_wrote) 4 ≡ true
+  pub told : has (begins_at (led_to right_refused).tree 6) 4 ≡ true
+  pub victim_told : map (λ c. c.victim) (led_to right_refused).conflicts ≡ 4 ∷ []
+  pub dies : is_free (led_to right_refused) 4 ≡ false
+  -- when main has ended its block, none is pending
+  pub ended : is_pending (led_to (begins 0 1 ∷ commits 0 2 ∷ [])).tree 1 ≡ false

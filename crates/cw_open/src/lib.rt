@@ -9,7 +9,7 @@
 //! `specs/Left.antt` says what a run leaves, and `specs/Reordered.antt` that this is true in depth-first order too.
 //! `specs/Hands.antt` says what the steps of other strands leave unchanged, `specs/Around.antt` what they leave of the
 //! nodes around a strand, `specs/Judged.antt` what a strand has learned of accesses, and `specs/Looked.antt` what it found
-//! beneath its block.
+//! beneath its block and puts back. `specs/Unfinished.antt` is about strands that have not finished.
 //! `specs/Worked.antt`, `specs/WorkedTimes.antt`, `specs/WorkedHands.antt` and `specs/WorkedAround.antt` try them.
 #![tactic(auto)]
 
@@ -19,13 +19,14 @@ ghost use Rattle.cw_open.specs.Judged.{AccessesStay, BarredAreMet, BarredArePart
 ghost use Rattle.cw_open.specs.Laws.{AtOnceIsAtAnyTime, BlocksHaveEnded, CancelsAreRight, CancelsNameCells, CellsFit, ClocksAreLatest, DyingRollBack, FreeAreSafe, ListsAreChains, ListsAreLive, ListsHaveAll, ListsRise, OpenAreNested, OwnAccessesAreFree, RefusalsAreTold, StrandsStandAtPlaces, TreesAreSound, VictimsAreAbove};
 ghost use Rattle.cw_open.specs.Left.{HistoriesAreInOrder, HistoriesAreLeft};
 ghost use Rattle.cw_open.specs.LeftFirst.{AtOnceIsWhilePending, LeftFirstAreOlder, LeftFirstHaveFinished, LeftFirstIsUnrefused};
-ghost use Rattle.cw_open.specs.Looked.{BeneathStays, LooksStay, NewestAreBeneath, OneBlockHas};
+ghost use Rattle.cw_open.specs.Looked.{BeneathIsLast, BeneathStays, FoundArePutBack, LooksStay, NewestAreBeneath, OneBlockHas};
 ghost use Rattle.cw_open.specs.Reads.{ReadsAreMet};
 ghost use Rattle.cw_open.specs.Reordered.{CancelsStay, CellsStay, EndsStay, FaultsStay, JournalsStay, RefusalsStay, RollsBackStays};
 ghost use Rattle.cw_open.specs.Refused.{AbortedAreVictims, AheadIsTimely, AskersAreTried, AtOnceIsTold, CommittedAreSafe, ConflictsAreRecorded, DeadGoBack, DyingGoBack, StopsAreLeftOut, ToldIsAtAnyTime};
 ghost use Rattle.cw_open.specs.Spent.{SpentAreInOrder};
+ghost use Rattle.cw_open.specs.Unfinished.{OneForkIsAwaited, RootsLeaveNone, UnfinishedAreLive, UntoldAreFree};
 ghost use Rattle.cw_open.specs.Worked.{Beneath, GivenUp, Inside, InnerCommitted, LeftStrands, Outer, Twice};
-ghost use Rattle.cw_open.specs.WorkedAround.{TwoBlocks};
+ghost use Rattle.cw_open.specs.WorkedAround.{PutBackRows, TwoBlocks};
 ghost use Rattle.cw_open.specs.WorkedHands.{BroughtByOther, TwoHands};
 ghost use Rattle.cw_open.specs.WorkedTimes.{DrawnEarly, RefusedLate};
 
@@ -255,6 +256,22 @@ pub fn looks_stay()
     ensures looks { LooksStay }
 {}
 
+/// What is beneath a pending block is the end of a list. A list of what was found of each cell with a write beneath a strand's block, by
+/// rising cells, is what the strand puts back if it gives the block up with a next stamp.
+pub fn looks_are_put_back()
+    ensures last { BeneathIsLast }
+    ensures found { FoundArePutBack }
+{}
+
+/// A strand waits for one fork at most. If it has not finished, it is live. If main runs and is in no block of its own, no block is
+/// pending. A running strand is free if no access that was refused beneath it has a block around its place for its victim.
+pub fn unfinished_strands()
+    ensures one { OneForkIsAwaited }
+    ensures live { UnfinishedAreLive }
+    ensures none { RootsLeaveNone }
+    ensures free { UntoldAreFree }
+{}
+
 /// What the definitions say of small runs.
 pub fn worked_runs()
     ensures inside { Inside }
@@ -281,7 +298,8 @@ pub fn worked_hands()
     ensures brought { BroughtByOther }
 {}
 
-/// What they say of a small run in which two strands have blocks, write, and one ends its block.
+/// What they say of a small run in which two strands have blocks and write, and one ends its block, or the other is refused.
 pub fn worked_around()
-    ensures { TwoBlocks }
+    ensures blocks { TwoBlocks }
+    ensures put_back { PutBackRows }
 {}

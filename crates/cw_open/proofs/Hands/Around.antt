@@ -1,12 +1,12 @@
 -- A step of another leaves what is around a running strand.
-use Rattle.std.proofs.Common.{◌≡◌, ℕ, ◌<◌, ◌≤◌, List, [], ◌∷◌, length, map, refl, ap, sym, ◌∙◌, subst, arith, Bool, true, false, cond, Option, Some, None, inl, inr, nat_eq, nat_lt, ◌+◌}
-use Rattle.std.specs.Prelude.{◌⊎◌, ◌&&◌, ◌||◌, not, ℤ, filter, slice_get}
+use Rattle.std.proofs.Common.{◌≡◌, ℕ, ◌<◌, ◌≤◌, List, [], ◌∷◌, length, map, refl, ap, sym, ◌∙◌, subst, arith, Bool, true, false, cond, Some, None, inl, inr, nat_eq, nat_lt, ◌+◌}
+use Rattle.std.specs.Prelude.{◌&&◌, not, ℤ, filter, slice_get}
 use Rattle.std.specs.List.{suffix_len}
 use Rattle.std.specs.Option.{option_or}
-use Rattle.std.proofs.lemmas.Bool.{and_parts, and_left, and_right, cases_eq, cases_lt, cases_Bool, eqb-true, false_from_ne_true}
+use Rattle.std.proofs.lemmas.Bool.{and_right, cases_eq, cases_lt, cases_Bool, eqb-true, false_from_ne_true}
 use Rattle.cw_tree.specs.declared.node.Node.{Node}
-use Rattle.cw_tree.specs.Nodes.{passes, number_in, is_block_kind, is_pending_state, is_aborted_state, parent_of, stamp_of, is_strand, is_fork, is_block, is_pending, is_aborted, all_nodes}
-use Rattle.cw_tree.specs.Walks.{IsRooted, has, path, is_ancestor, is_above, outermost, may_fall}
+use Rattle.cw_tree.specs.Nodes.{passes, is_block_kind, is_pending_state, is_aborted_state, parent_of, stamp_of, is_fork, is_block, is_pending, is_aborted, all_nodes}
+use Rattle.cw_tree.specs.Walks.{IsRooted, path, is_ancestor, is_above, outermost, may_fall}
 use Rattle.cw_tree.specs.Series.{children, place}
 use Rattle.cw_tree.specs.Attempts.{elders, block_attempt}
 use Rattle.cw_tree.specs.VictimsAt.{victim_at}
@@ -15,7 +15,7 @@ use Rattle.cw_tree.proofs.Members.{in_filter, filter_same, map_same, suffix_same
 use Rattle.cw_tree.proofs.InOrder.DepthFirst.{child_is, child_in, children_rise}
 use Rattle.cw_tree.proofs.Rising.{Rises}
 use Rattle.cw_tree.proofs.Walks.Kin.{has_in, in_ancestor, branch, fork_child, before_of}
-use Rattle.cw_tree.proofs.Walks.Ancestors.{ancestor_self, ancestor_above, ancestor_le, ancestor_trans, ancestor_up, ancestor_step}
+use Rattle.cw_tree.proofs.Walks.Ancestors.{ancestor_self, ancestor_le, ancestor_trans, ancestor_up}
 use Rattle.cw_tree.proofs.NodeKinds.{strand_no_block, pending_block}
 use Rattle.cw_tree.proofs.NextNodes.Kept.{path_kept}
 use Rattle.cw_open.specs.Machine.{OpenMachine, is_running}

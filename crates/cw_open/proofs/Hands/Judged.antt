@@ -1,13 +1,13 @@
 -- What a strand learned of an access stays so, as others step.
-use Rattle.std.proofs.Common.{◌≡◌, ℕ, ◌<◌, ◌≤◌, List, [], ◌∷◌, ◌++◌, length, refl, ap, sym, ◌∙◌, subst, arith, Bool, true, false, cond, Option, Some, None, inl, inr, length-append}
-use Rattle.std.specs.Prelude.{◌⊎◌, ◌&&◌, not, ℤ}
+use Rattle.std.proofs.Common.{◌≡◌, ℕ, ◌<◌, List, [], ◌∷◌, ◌++◌, length, refl, ap, sym, ◌∙◌, arith, Bool, true, false, cond, Some, None, inl, inr, length-append}
+use Rattle.std.specs.Prelude.{◌&&◌, not}
 use Rattle.std.specs.List.{find}
-use Rattle.std.proofs.lemmas.Bool.{and_parts, and_from, cases_Bool, not-true, false_from_ne_true}
+use Rattle.std.proofs.lemmas.Bool.{and_parts, and_from, not-true, false_from_ne_true}
 use Rattle.cw_tree.specs.declared.node.Node.{Node}
 use Rattle.cw_tree.specs.declared.node.BlockState.{BlockState}
 use Rattle.cw_tree.specs.declared.node.BlockState.TheVariants.{Committed, Aborted}
 use Rattle.cw_tree.specs.Nodes.{is_strand_kind, is_fork_kind, is_block_kind, is_pending_state, touches_kind, stamp_of, is_block, is_pending, touches, closed}
-use Rattle.cw_tree.specs.Walks.{IsRooted, above, nua, is_ancestor, is_above}
+use Rattle.cw_tree.specs.Walks.{IsRooted, above, is_ancestor, is_above}
 use Rattle.cw_tree.specs.Series.{place, parallel}
 use Rattle.cw_tree.specs.AccessStacks.{access_at}
 use Rattle.cw_tree.proofs.Lists.{In}
@@ -19,20 +19,17 @@ use Rattle.cw_tree.proofs.NextNodes.Growing.{node_grown, number_grown}
 use Rattle.cw_tree.proofs.NextNodes.Closing.{node_closed}
 use Rattle.cw_tree.proofs.NextNodes.Pending.{pending_closed}
 use Rattle.cw_tree.proofs.NextNodes.Kept.{above_kept}
-use Rattle.cw_open.specs.Machine.{OpenMachine, is_running}
+use Rattle.cw_open.specs.Machine.{OpenMachine}
 use Rattle.cw_open.specs.Steps.{Step, forks, begins, accesses, refuses, outputs, cancels, commits, undoes, aborts, finishes, joins, stops, after_open_step}
-use Rattle.cw_open.specs.Runs.{IsMet, Allowed, at_any_time}
-use Rattle.cw_open.specs.Times.{IsMetInTime}
-use Rattle.cw_open.specs.Hands.{is_step_of}
-use Rattle.cw_open.specs.Judged.{IsStillAccess, AccessesStay, FreeStay, WithinStay, IsBarredBy, BarredArePart, met_of, BarredAreMet}
+use Rattle.cw_open.specs.Runs.{at_any_time}
+use Rattle.cw_open.specs.Judged.{AccessesStay, FreeStay, WithinStay, BarredArePart, BarredAreMet}
 use Rattle.cw_open.proofs.Open.Staying.{Stays, closed_stays, keeps, ancestor_stays}
-use Rattle.cw_open.proofs.Open.Trees.{IsWell, stands_well}
+use Rattle.cw_open.proofs.Open.Trees.{stands_well}
 use Rattle.cw_open.proofs.Laws.Named.{access_named}
 use Rattle.cw_open.proofs.Refused.Told.{are_parallel}
 use Rattle.cw_open.proofs.Refused.Victims.{told_states}
 use Rattle.cw_open.proofs.Runs.States.{states, state_after}
 use Rattle.cw_open.proofs.Hands.Around.{kept_at, same_place_after}
-use Rattle.cw_open.specs.Around.{IsKeptAt}
 
 -- ## Searches
 

@@ -1,23 +1,21 @@
 -- A step of another leaves what a strand finds in a list beneath its block.
-use Rattle.std.proofs.Common.{◌≡◌, ◌≢◌, ℕ, ◌<◌, ◌≤◌, List, [], ◌∷◌, ◌++◌, length, map, refl, ap, sym, ◌∙◌, subst, arith, Bool, true, false, inl, inr, append-nil, nat_eq, nat_lt}
-use Rattle.std.specs.Prelude.{◌⊎◌, ◌&&◌, ◌||◌, not, ℤ, pos, Option, All, filter, is_some, slice_set, slice_index_or}
+use Rattle.std.proofs.Common.{◌≡◌, ◌≢◌, ℕ, ◌<◌, ◌≤◌, List, [], ◌∷◌, ◌++◌, length, map, refl, ap, sym, ◌∙◌, subst, arith, Bool, true, false, inl, inr, nat_eq, nat_lt}
+use Rattle.std.specs.Prelude.{◌⊎◌, ◌&&◌, ◌||◌, not, ℤ, pos, is_some, slice_set, slice_index_or}
 use Rattle.std.specs.List.{list_any}
-use Rattle.std.proofs.lemmas.Bool.{and_parts, and_from, or_parts, cases_eq, cases_lt, cases_Bool, ltb-true, eqb-true, eq-eqb, false_from_ne_true, not-true, not_from_false}
+use Rattle.std.proofs.lemmas.Bool.{and_parts, and_from, or_parts, cases_eq, cases_lt, cases_Bool, ltb-true, eq-eqb, false_from_ne_true, not-true, not_from_false}
 use Rattle.cw_tree.specs.declared.node.Node.{Node}
 use Rattle.cw_tree.specs.declared.node.BlockState.TheVariants.{Committed, Aborted}
 use Rattle.cw_tree.specs.Nodes.{touches_kind, stamp_of, is_pending, touches, fresh_node}
 use Rattle.cw_tree.specs.Walks.{IsRooted, has, is_ancestor, is_above}
-use Rattle.cw_tree.specs.Series.{place, parallel}
-use Rattle.cw_tree.specs.Accesses.{written, cell_value, HasAccess}
+use Rattle.cw_tree.specs.Series.{place}
+use Rattle.cw_tree.specs.Accesses.{written}
 use Rattle.cw_tree.specs.AccessStacks.{AreThere, access_at, access_kind, conflict_at}
-use Rattle.cw_tree.specs.Cancels.{before_block}
 use Rattle.cw_tree.specs.Newest.{newest}
 use Rattle.cw_tree.proofs.Lists.{In, any_in, any_from}
 use Rattle.cw_tree.proofs.Members.{in_filter, filter_all, map_in, any_same, in_append}
 use Rattle.cw_tree.proofs.Cancels.{left_before}
-use Rattle.cw_tree.proofs.Walks.There.{node_there}
 use Rattle.cw_tree.proofs.Walks.Kin.{has_in, in_has, ancestor_linear}
-use Rattle.cw_tree.proofs.Walks.Ancestors.{above_ancestor, ancestor_le, ancestor_trans}
+use Rattle.cw_tree.proofs.Walks.Ancestors.{above_ancestor, ancestor_trans}
 use Rattle.cw_tree.proofs.NextNodes.Growing.{length_more, node_new, number_new}
 use Rattle.cw_tree.proofs.ChainLaws.Stamps.{named_there}
 use Rattle.cw_tree.proofs.ChainLaws.Chains.{there_in}
@@ -26,7 +24,7 @@ use Rattle.cw_open.specs.Machine.{OpenMachine, live, live_value, is_running, in_
 use Rattle.cw_open.specs.Steps.{Step, forks, begins, accesses, refuses, outputs, cancels, commits, undoes, aborts, finishes, joins, stops, live_beside, after_open_step}
 use Rattle.cw_open.specs.Runs.{Allowed, IsReachedBy, meets}
 use Rattle.cw_open.specs.Hands.{is_step_of, brought}
-use Rattle.cw_open.specs.Looked.{IsBeneath, NewestAreBeneath, OneBlockHas, BeneathStays, accesses_of, IsFound, LooksStay}
+use Rattle.cw_open.specs.Looked.{NewestAreBeneath, OneBlockHas, BeneathStays, IsFound, LooksStay}
 use Rattle.cw_open.proofs.Open.Trees.{IsWell}
 use Rattle.cw_open.proofs.Open.TreeSteps.{free_runs, rolls_runs, place_pending}
 use Rattle.cw_open.proofs.Open.Staying.{ancestor_stays}
@@ -41,7 +39,7 @@ use Rattle.cw_open.proofs.Laws.OwnAccesses.{newest_single, newest_over}
 use Rattle.cw_open.proofs.Runs.States.{IsState, state_after, same_first}
 use Rattle.cw_open.proofs.Refused.Victims.{IsToldState, told_states, over_place}
 use Rattle.cw_open.proofs.Hands.Apart.{places_parallel}
-use Rattle.cw_open.proofs.Hands.Beside.{IsBeside, beside}
+use Rattle.cw_open.proofs.Hands.Beside.{beside}
 use Rattle.cw_open.proofs.Hands.Alone.{place_stays}
 
 -- ## One list
