@@ -9,5 +9,6 @@ pub mod Judged
 pub mod Looked
 pub mod Met
 pub mod PutBack
+pub mod Rest
 pub mod Timed
 pub mod Unfinished

@@ -10,7 +10,7 @@ use Rattle.cw_tree.proofs.Worked.Checks.{all_one}
 use Rattle.cw_open.specs.Steps.{first_machine}
 use Rattle.cw_open.specs.Runs.{IsRun, at_any_time}
 use Rattle.cw_open.specs.Looked.{accesses_of, IsFound}
-use Rattle.cw_open.specs.WorkedAround.{two_cells, led_to, both_wrote, right_took, TwoBlocks, second_zero, PutBackRows}
+use Rattle.cw_open.specs.WorkedAround.{two_cells, led_to, both_wrote, right_took, TwoBlocks, second_zero, PutBackRows, RightJoins}
 use Rattle.cw_open.proofs.WorkedTimes.Checks.{next_stamp, end_stamp, comes_last}
 
 run : IsRun (at_any_time (λ t us w. newest us)) (first_machine two_cells) right_took
@@ -84,3 +84,12 @@ put_back_rows = record {
   cells_found zero l e = absurd (cc e)
   cells_found (suc zero) l e = (0, omega arith, refl)
   cells_found (suc (suc c)) l e = absurd (omega (arith, l))
+
+pub right_joins : RightJoins
+right_joins = record {
+  come = record { fork = refl; strands = refl; left = refl; right = refl };
+  main_waits = refl;
+  may = (refl, (refl, tt));
+  main_runs = refl;
+  main_place = refl;
+}

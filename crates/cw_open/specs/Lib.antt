@@ -15,6 +15,7 @@ pub mod Around
 pub mod Judged
 pub mod Looked
 pub mod Unfinished
+pub mod Joins
 pub mod Worked
 pub mod WorkedTimes
 pub mod WorkedHands

@@ -9,11 +9,12 @@ use Rattle.cw_tree.specs.Accesses.{is_live}
 use Rattle.cw_tree.specs.AccessStacks.{access_at}
 use Rattle.cw_tree.specs.VictimsAt.{victim_at}
 use Rattle.cw_tree.specs.Newest.{newest}
-use Rattle.cw_open.specs.Machine.{OpenMachine, live, is_free}
-use Rattle.cw_open.specs.Steps.{Step, forks, begins, accesses, refuses, commits, live_beside, puts_back, after_all, first_machine}
+use Rattle.cw_open.specs.Machine.{OpenMachine, live, is_running, is_free}
+use Rattle.cw_open.specs.Steps.{Step, forks, begins, accesses, refuses, commits, finishes, live_beside, puts_back, after_all, first_machine}
 use Rattle.cw_open.specs.Runs.{IsRun, IsMet, at_any_time}
 use Rattle.cw_open.specs.Around.{blocks_at, begins_at}
 use Rattle.cw_open.specs.Judged.{IsBarredBy, met_of}
+use Rattle.cw_open.specs.Joins.{rest_steps, RightHasCome}
 use Rattle.cw_open.specs.Looked.{IsBeneath, IsFound, IsListFound}
 
 -- two cells, which have the value 0
@@ -96,3 +97,17 @@ pub record PutBackRows : Type 0 where
   pub dies : is_free (led_to right_refused) 4 ≡ false
   -- when main has ended its block, none is pending
   pub ended : is_pending (led_to (begins 0 1 ∷ commits 0 2 ∷ [])).tree 1 ≡ false
+
+-- ## A fork whose left strand has finished
+
+-- the left strand finishes, and the right one ends its block
+abbrev pub right_alone : List Step
+right_alone = left_closed ++ finishes 3 false ∷ commits 4 8 ∷ []
+
+pub record RightJoins : Type 0 where
+  pub come : RightHasCome (led_to right_alone) 2 3 4
+  pub main_waits : is_running (led_to right_alone) 0 ≡ false
+  -- the right one finishes, the fork is joined, and main runs again in its block
+  pub may : IsRun (at_any_time (λ t us w. newest us)) (led_to right_alone) (rest_steps 2 4 false)
+  pub main_runs : is_free (led_to (right_alone ++ rest_steps 2 4 false)) 0 ≡ true
+  pub main_place : place (led_to (right_alone ++ rest_steps 2 4 false)).tree 0 ≡ 1

@@ -9,12 +9,14 @@
 //! `specs/Left.antt` says what a run leaves, and `specs/Reordered.antt` that this is true in depth-first order too.
 //! `specs/Hands.antt` says what the steps of other strands leave unchanged, `specs/Around.antt` what they leave of the
 //! nodes around a strand, `specs/Judged.antt` what a strand has learned of accesses, and `specs/Looked.antt` what it found
-//! beneath its block and puts back. `specs/Unfinished.antt` is about strands that have not finished.
+//! beneath its block and puts back. `specs/Unfinished.antt` is about strands that have not finished,
+//! `specs/Joins.antt` about forks whose left strand has.
 //! `specs/Worked.antt`, `specs/WorkedTimes.antt`, `specs/WorkedHands.antt` and `specs/WorkedAround.antt` try them.
 #![tactic(auto)]
 
 ghost use Rattle.cw_open.specs.Around.{AroundStays};
 ghost use Rattle.cw_open.specs.Hands.{AheadIsNext, AllowedAtAnyTime, BeneathIsOwn, ConflictsAreTold, DrawnStay, EndStampsStay, ForkersRunAgain, JoinsLeaveAlone, MetInTimeStays, MetStays, NewestStay, NextStampsStay, NoneConflictsMore, OthersLeaveAlone, PlacesPart, RunsAreInTime, RunsBegin, RunsGoOn, StrandsMayJoin, TimesAreLow};
+ghost use Rattle.cw_open.specs.Joins.{ForkersGoOn, RestLeavesAlone, RightMayJoin};
 ghost use Rattle.cw_open.specs.Judged.{AccessesStay, BarredAreMet, BarredArePart, FreeStay, WithinStay};
 ghost use Rattle.cw_open.specs.Laws.{AtOnceIsAtAnyTime, BlocksHaveEnded, CancelsAreRight, CancelsNameCells, CellsFit, ClocksAreLatest, DyingRollBack, FreeAreSafe, ListsAreChains, ListsAreLive, ListsHaveAll, ListsRise, OpenAreNested, OwnAccessesAreFree, RefusalsAreTold, StrandsStandAtPlaces, TreesAreSound, VictimsAreAbove};
 ghost use Rattle.cw_open.specs.Left.{HistoriesAreInOrder, HistoriesAreLeft};
@@ -26,7 +28,7 @@ ghost use Rattle.cw_open.specs.Refused.{AbortedAreVictims, AheadIsTimely, Askers
 ghost use Rattle.cw_open.specs.Spent.{SpentAreInOrder};
 ghost use Rattle.cw_open.specs.Unfinished.{OneForkIsAwaited, RootsLeaveNone, UnfinishedAreLive, UntoldAreFree};
 ghost use Rattle.cw_open.specs.Worked.{Beneath, GivenUp, Inside, InnerCommitted, LeftStrands, Outer, Twice};
-ghost use Rattle.cw_open.specs.WorkedAround.{PutBackRows, TwoBlocks};
+ghost use Rattle.cw_open.specs.WorkedAround.{PutBackRows, RightJoins, TwoBlocks};
 ghost use Rattle.cw_open.specs.WorkedHands.{BroughtByOther, TwoHands};
 ghost use Rattle.cw_open.specs.WorkedTimes.{DrawnEarly, RefusedLate};
 
@@ -225,6 +227,14 @@ pub fn strands_join()
     ensures alone { JoinsLeaveAlone }
 {}
 
+/// If the left strand of a fork has finished, the right one runs and is in no block of its own, it may finish, and the fork may be
+/// joined. If the strand that forked waited only for this fork, it then runs again where it forked. Others are left alone.
+pub fn right_strands_join()
+    ensures may { RightMayJoin }
+    ensures again { ForkersGoOn }
+    ensures alone { RestLeavesAlone }
+{}
+
 /// A step of another strand leaves what is around a running strand. Its place, and each node above that, is as it was, with the same
 /// nodes in it and the same pending blocks around it, at their attempts. Of each access the same block is the victim.
 pub fn others_leave_around()
@@ -298,8 +308,10 @@ pub fn worked_hands()
     ensures brought { BroughtByOther }
 {}
 
-/// What they say of a small run in which two strands have blocks and write, and one ends its block, or the other is refused.
+/// What they say of a small run in which two strands have blocks and write, and one ends its block and finishes, or the other
+/// is refused.
 pub fn worked_around()
     ensures blocks { TwoBlocks }
     ensures put_back { PutBackRows }
+    ensures joins { RightJoins }
 {}

@@ -51,7 +51,7 @@ two_strands m w f l r c =
     }
 
 -- a finish that is dead where the strand is dying is allowed
-as_dying : (d e : Bool) → (if d then d else (not d || e)) ≡ true
+pub as_dying : (d e : Bool) → (if d then d else (not d || e)) ≡ true
 as_dying true e = refl
 as_dying false e = refl
 
