@@ -1,7 +1,7 @@
-ghost use Rattle.std.specs.Prelude.{◌≡◌, ◌<◌, ◌+◌, ◌≤◌, ◌^◌, length, All, IsTrue, IfOk};
+ghost use Rattle.std.specs.Prelude.{◌≡◌, ◌+◌, ◌≤◌, IsTrue, IfOk};
 ghost use Rattle.cw_tree.specs.Shape.{IsTree};
 ghost use Rattle.cw_tree.specs.Series.{parallel};
-ghost use Rattle.cw_sp.specs.Orders.{english, hebrew, is_leaf};
+ghost use Rattle.cw_sp.specs.Orders.{hebrew, is_leaf};
 
 use crate::family::Family;
 use crate::line::Line;
