@@ -10,5 +10,6 @@ pub mod Looked
 pub mod Met
 pub mod PutBack
 pub mod Rest
+pub mod Still
 pub mod Timed
 pub mod Unfinished

@@ -19,7 +19,7 @@ abbrev pub begins_at : List Node → ℕ → List ℕ
 begins_at t p = map (stamp_of t) (blocks_at t p)
 
 -- In tree u node q is as it was in tree t, with the same nodes in it. It has the same pending blocks around it, each begun at the same
--- stamp and at the same attempt. Of an access in tree t the same of them is the victim.
+-- stamp and at the same attempt. The same of them is the victim of an access in tree t.
 pub record IsKeptAt (t u : List Node) (q : ℕ) : Type 0 where
   pub node : slice_get u q ≡ slice_get t q
   pub way : path u q ≡ path t q

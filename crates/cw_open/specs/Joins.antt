@@ -14,7 +14,7 @@ use Rattle.cw_open.specs.Hands.{IsLeftAlone, WaitsForAlone, RunsAgain}
 abbrev pub rest_steps : (f r : ℕ) → (dead : Bool) → List Step
 rest_steps f r dead = finishes r dead ∷ joins f ∷ []
 
--- of an open fork the left strand has finished, and the right one runs and is in no block of its own
+-- the left strand of an open fork has finished, and the right one runs and is in no block of its own
 pub record RightHasCome (m : OpenMachine) (f l r : ℕ) : Type 0 where
   pub fork : IsTrue (is_fork m.tree f && not (has m.joined f))
   pub strands : children m.tree f ≡ l ∷ r ∷ []

@@ -16,6 +16,7 @@ pub mod Judged
 pub mod Looked
 pub mod Unfinished
 pub mod Joins
+pub mod Still
 pub mod Worked
 pub mod WorkedTimes
 pub mod WorkedHands

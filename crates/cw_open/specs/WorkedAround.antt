@@ -7,10 +7,11 @@ use Rattle.cw_tree.specs.Walks.{has, nua}
 use Rattle.cw_tree.specs.Series.{place, children, parallel}
 use Rattle.cw_tree.specs.Accesses.{is_live}
 use Rattle.cw_tree.specs.AccessStacks.{access_at}
+use Rattle.cw_tree.specs.Refusals.{refused_node}
 use Rattle.cw_tree.specs.VictimsAt.{victim_at}
 use Rattle.cw_tree.specs.Newest.{newest}
 use Rattle.cw_open.specs.Machine.{OpenMachine, live, is_running, is_free}
-use Rattle.cw_open.specs.Steps.{Step, forks, begins, accesses, refuses, commits, finishes, live_beside, puts_back, after_all, first_machine}
+use Rattle.cw_open.specs.Steps.{Step, forks, begins, accesses, refuses, commits, undoes, aborts, finishes, live_beside, puts_back, after_all, first_machine}
 use Rattle.cw_open.specs.Runs.{IsRun, IsMet, at_any_time}
 use Rattle.cw_open.specs.Around.{blocks_at, begins_at}
 use Rattle.cw_open.specs.Judged.{IsBarredBy, met_of}
@@ -111,3 +112,12 @@ pub record RightJoins : Type 0 where
   pub may : IsRun (at_any_time (λ t us w. newest us)) (led_to right_alone) (rest_steps 2 4 false)
   pub main_runs : is_free (led_to (right_alone ++ rest_steps 2 4 false)) 0 ≡ true
   pub main_place : place (led_to (right_alone ++ rest_steps 2 4 false)).tree 0 ≡ 1
+
+-- ## What was refused
+
+pub record StillRows : Type 0 where
+  -- the block that was refused is the right strand's, and is pending until that strand rolls it back
+  pub refused : map (refused_node (led_to right_refused).tree) (led_to right_refused).conflicts ≡ 6 ∷ []
+  pub before : is_pending (led_to right_refused).tree 6 ≡ true
+  pub beside : is_pending (led_to (right_refused ++ commits 3 7 ∷ [])).tree 6 ≡ true
+  pub own : is_pending (led_to (right_refused ++ undoes 4 1 ∷ aborts 4 7 ∷ [])).tree 6 ≡ false

@@ -10,7 +10,7 @@
 //! `specs/Hands.antt` says what the steps of other strands leave unchanged, `specs/Around.antt` what they leave of the
 //! nodes around a strand, `specs/Judged.antt` what a strand has learned of accesses, and `specs/Looked.antt` what it found
 //! beneath its block and puts back. `specs/Unfinished.antt` is about strands that have not finished,
-//! `specs/Joins.antt` about forks whose left strand has.
+//! `specs/Joins.antt` about forks whose left strand has, and `specs/Still.antt` about what conflicts refused.
 //! `specs/Worked.antt`, `specs/WorkedTimes.antt`, `specs/WorkedHands.antt` and `specs/WorkedAround.antt` try them.
 #![tactic(auto)]
 
@@ -26,9 +26,10 @@ ghost use Rattle.cw_open.specs.Reads.{ReadsAreMet};
 ghost use Rattle.cw_open.specs.Reordered.{CancelsStay, CellsStay, EndsStay, FaultsStay, JournalsStay, RefusalsStay, RollsBackStays};
 ghost use Rattle.cw_open.specs.Refused.{AbortedAreVictims, AheadIsTimely, AskersAreTried, AtOnceIsTold, CommittedAreSafe, ConflictsAreRecorded, DeadGoBack, DyingGoBack, StopsAreLeftOut, ToldIsAtAnyTime};
 ghost use Rattle.cw_open.specs.Spent.{SpentAreInOrder};
+ghost use Rattle.cw_open.specs.Still.{StillStays};
 ghost use Rattle.cw_open.specs.Unfinished.{OneForkIsAwaited, RootsLeaveNone, UnfinishedAreLive, UntoldAreFree};
 ghost use Rattle.cw_open.specs.Worked.{Beneath, GivenUp, Inside, InnerCommitted, LeftStrands, Outer, Twice};
-ghost use Rattle.cw_open.specs.WorkedAround.{PutBackRows, RightJoins, TwoBlocks};
+ghost use Rattle.cw_open.specs.WorkedAround.{PutBackRows, RightJoins, StillRows, TwoBlocks};
 ghost use Rattle.cw_open.specs.WorkedHands.{BroughtByOther, TwoHands};
 ghost use Rattle.cw_open.specs.WorkedTimes.{DrawnEarly, RefusedLate};
 
@@ -236,7 +237,7 @@ pub fn right_strands_join()
 {}
 
 /// A step of another strand leaves what is around a running strand. Its place, and each node above that, is as it was, with the same
-/// nodes in it and the same pending blocks around it, at their attempts. Of each access the same block is the victim.
+/// nodes in it and the same pending blocks around it, at their attempts. The same block is the victim of each access.
 pub fn others_leave_around()
     ensures around { AroundStays }
 {}
@@ -282,6 +283,12 @@ pub fn unfinished_strands()
     ensures free { UntoldAreFree }
 {}
 
+/// If what a conflict refused is as it was when refused (its victim is pending, or the refused access is the last of a strand that has
+/// not finished and is still at its place), each step of another strand leaves it so.
+pub fn refused_stay()
+    ensures still { StillStays }
+{}
+
 /// What the definitions say of small runs.
 pub fn worked_runs()
     ensures inside { Inside }
@@ -314,4 +321,5 @@ pub fn worked_around()
     ensures blocks { TwoBlocks }
     ensures put_back { PutBackRows }
     ensures joins { RightJoins }
+    ensures still { StillRows }
 {}

@@ -116,7 +116,7 @@ any_first f g xs ys same none =
 
 -- ## What others finish, join and stop
 
-finished_stays : (m : OpenMachine) (e : Step) (s : ℕ) → is_step_of s e ≡ false → has_finished (after_open_step m e) s ≡ has_finished m s
+pub finished_stays : (m : OpenMachine) (e : Step) (s : ℕ) → is_step_of s e ≡ false → has_finished (after_open_step m e) s ≡ has_finished m s
 finished_stays m (forks u stamp) s o = refl
 finished_stays m (begins u stamp) s o = refl
 finished_stays m (accesses u c w stamp) s o = refl

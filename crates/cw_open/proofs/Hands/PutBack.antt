@@ -27,7 +27,7 @@ use Rattle.cw_open.proofs.Runs.States.{IsState, states}
 
 -- ## The end of a list
 
--- of two lists, the first of which passes and the second does not, the first is what is taken
+-- if the first of two lists passes, and the second does not, the first is what is taken
 while_front : (p : ℕ → Bool) (xs ys : List ℕ) → ((v : ℕ) → In v xs → p v ≡ true) → ((v : ℕ) → In v ys → p v ≡ false) → take_while p (xs ++ ys) ≡ xs
 while_front p [] [] f g = refl
 while_front p [] (y ∷ ys) f g = take_while-cons p y ys ∙ ap (λ q. cond q (y ∷ take_while p ys) []) (g y (inl refl))

@@ -1,9 +1,8 @@
 -- The right strand finishes after the left one, and their fork is joined.
-use Rattle.std.proofs.Common.{◌≡◌, ◌≢◌, ℕ, ◌<◌, List, [], ◌∷◌, length, refl, ap, sym, ◌∙◌, subst, arith, Bool, true, false, inl, inr, nat_eq}
-use Rattle.std.specs.Prelude.{◌⊎◌, ◌&&◌, ◌||◌, not, ℤ, if◌then◌else◌}
+use Rattle.std.proofs.Common.{◌≡◌, ◌≢◌, ℕ, ◌<◌, List, refl, ap, sym, ◌∙◌, subst, arith, Bool, true, false, inl, inr, nat_eq}
+use Rattle.std.specs.Prelude.{◌&&◌, ◌||◌, not, if◌then◌else◌}
 use Rattle.std.specs.List.{list_all}
 use Rattle.std.proofs.lemmas.Bool.{and_parts, and_from, or_parts, or_left, or_right, eq-eqb, not-true, not_from_false}
-use Rattle.cw_tree.specs.declared.node.Node.{Node}
 use Rattle.cw_tree.specs.Nodes.{parent_of, is_strand, is_fork}
 use Rattle.cw_tree.specs.Walks.{has}
 use Rattle.cw_tree.specs.Series.{strand_of, children, place}
@@ -14,9 +13,8 @@ use Rattle.cw_tree.proofs.Walks.There.{fork_there}
 use Rattle.cw_open.specs.Machine.{OpenMachine, has_finished, waits, is_running, in_block, is_dying, leads_back}
 use Rattle.cw_open.specs.Steps.{finishes, after_open_step, after_all}
 use Rattle.cw_open.specs.Runs.{Rules, Allowed, IsRun, left_died, at_any_time}
-use Rattle.cw_open.specs.Hands.{IsLeftAlone, WaitsForAlone, RunsAgain, join_steps}
+use Rattle.cw_open.specs.Hands.{IsLeftAlone, RunsAgain, join_steps}
 use Rattle.cw_open.specs.Joins.{rest_steps, RightHasCome, MayEndAndJoin, RightMayJoin, ForkersGoOn, RestLeavesAlone}
-use Rattle.cw_open.proofs.Open.Trees.{IsWell}
 use Rattle.cw_open.proofs.Open.Standing.{runs}
 use Rattle.cw_open.proofs.Runs.States.{states}
 use Rattle.cw_open.proofs.Hands.Joined.{as_dying, others, again}

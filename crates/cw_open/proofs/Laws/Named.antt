@@ -25,7 +25,7 @@ use Rattle.cw_tree.proofs.NodeKinds.{node_tells, access_stamped, aborted_block}
 
 -- ## What a stamp names
 
-find_passes : (p : ℕ → Bool) (xs : List ℕ) (m : ℕ) → find p xs ≡ Some m → p m ≡ true
+pub find_passes : (p : ℕ → Bool) (xs : List ℕ) (m : ℕ) → find p xs ≡ Some m → p m ≡ true
 find_passes p [] m e = absurd (cc e)
 find_passes p (x ∷ xs) m e = by (p x) refl e (find_passes p xs m) where
   by : (b : Bool) → p x ≡ b → cond b (Some x) (find p xs) ≡ Some m → (find p xs ≡ Some m → p m ≡ true) → p m ≡ true

@@ -72,7 +72,7 @@ find_one p b (n ∷ ns) i e one = by (p n) refl (find_one p b ns) where
       more (elim i [ inl q ↦ absurd (cc (e, ap p q, is)) | inr j ↦ j ]) e (λ m j. one m (inr j))
 
 -- the block that was begun at a stamp
-block_found : (t : List Node) → AreStamps t → (b : ℕ) → is_block t b ≡ true → block_with_stamp t (stamp_of t b) ≡ Some b
+pub block_found : (t : List Node) → AreStamps t → (b : ℕ) → is_block t b ≡ true → block_with_stamp t (stamp_of t b) ≡ Some b
 block_found t s b block =
     let h = node_there (λ y. is_block_kind y.kind) t b block in
     find_one (λ n. is_block t n && nat_eq (stamp_of t n) (stamp_of t b)) b (all_nodes t) (below_in b (length t) h) (and_from (is_block t b) (nat_eq (stamp_of t b) (stamp_of t b)) block (eq-eqb (stamp_of t b) (stamp_of t b) refl))
