@@ -2,3 +2,4 @@ pub mod Closings
 pub mod Courses
 pub mod Trails
 mod Worked
+pub mod TreeLogs

@@ -1,13 +1,18 @@
 //! Courses: what strands did, as their logs tell it, and when logs are a coherent record. No code here runs.
 //! Use it to show that a runtime of yours leaves coherent records. `proofs/Trails` has the lemmas on how a log grows while its
 //! strand runs, over the definitions of `specs/Trails.antt`.
-//! Contracts cite `specs/Courses.antt` (what one strand did, and how that is written down) and `specs/Closings.antt` (the tree of
-//! logs, what threads owe, what a board owes, and the laws). `specs/Worked.antt` tries them on examples.
+//! Contracts cite `specs/Courses.antt` (what one strand did, and how that is written down), `specs/Closings.antt` (the tree of
+//! logs, what threads owe, what a board owes, and the laws) and `specs/TreeLogs.antt` (when logs make a given tree).
+//! `specs/Worked.antt` and `specs/WorkedTreeLogs.antt` try them on examples.
 #![tactic(auto)]
+
+mod one_tree;
 
 ghost use Rattle.cw_course.specs.Closings.{CoursesFollow, WorkedAreCoherent};
 ghost use Rattle.cw_course.specs.Courses.{CoursesGoOn};
 ghost use Rattle.cw_course.specs.Worked.{WorkedCourses};
+
+pub use one_tree::{logs_make_one_tree, worked_tree_logs};
 
 /// Examples: what the strands of small programs did is a course, and is none once one thing is changed.
 pub fn worked_courses()

@@ -1,0 +1,15 @@
+ghost use Rattle.cw_course.specs.TreeLogs.{ClosingsGiveOneTree, LogsMakeOneTree};
+ghost use Rattle.cw_course.specs.WorkedTreeLogs.{WorkedTreeLogs};
+
+/// Logs that have all nodes of a tree, each node once, and that hang where the tree has them make that tree together, except for the
+/// numbers of its nodes. The same is true of the conflicts. A board that is closed with such logs gives the tree in depth-first
+/// order, its conflicts, and the halt of the strand that stopped.
+pub fn logs_make_one_tree()
+    ensures tree { LogsMakeOneTree }
+    ensures closed { ClosingsGiveOneTree }
+{}
+
+/// Examples: the logs of a small tree, which are not its logs once one thing is changed.
+pub fn worked_tree_logs()
+    ensures { WorkedTreeLogs }
+{}
