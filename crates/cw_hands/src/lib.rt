@@ -4,8 +4,10 @@
 //! `specs/Laws.antt` (what is true of all runs). `specs/Worked.antt` tries them.
 #![tactic(auto)]
 
+ghost use Rattle.cw_hands.specs.Beside.{ColumnsStay, GapsStay, OwedStay, ShownWordsStay, TogetherGoOn, WaitingStay};
 ghost use Rattle.cw_hands.specs.Laws.{MachinesRun, MergedGoOn, OnlyReadyGoOn, OrderFollows, OrderIsKept, OthersLeaveReady, ReadyDiffer, ReadyGoOn, ReadyStay, TiersRun, TiersStand, TogetherAtAnyTime};
 ghost use Rattle.cw_hands.specs.Worked.{NoneOwed, NotReady, TwoStrands};
+ghost use Rattle.cw_hands.specs.WorkedBeside.{OwedBeside};
 
 use cw_open::Ruled;
 
@@ -47,6 +49,27 @@ pub fn others_leave_ready()
     ensures { OthersLeaveReady }
 {}
 
+/// Law: a run of both together, with the times of its nodes, goes on by a step that is in time.
+pub fn runs_go_together<R: Ruled>()
+    ensures { TogetherGoOn R.rules }
+{}
+
+/// Law: each step leaves the column of each node, and its gap, except that a split gives the right strand of its fork another gap.
+/// A word that shows a block stays while the block is pending.
+pub fn columns_stay()
+    ensures columns { ColumnsStay }
+    ensures gaps { GapsStay }
+    ensures words { ShownWordsStay }
+{}
+
+/// Law: a step that is not about a running strand leaves the column and the gap of its place, and of each place above that, where
+/// other strands wait. It leaves the word there if that shows a block around the place. If the strand is owed a merge, it leaves
+/// the word at its place in any case.
+pub fn waiting_places_stay()
+    ensures waiting { WaitingStay }
+    ensures owed { OwedStay }
+{}
+
 /// Computed examples: small runs with two strands. Main waits between the join of their fork and its merge, and does not wait if
 /// the fork was not stolen. Three claims are false: main goes on as soon as the machine has joined the fork; the right strand goes
 /// on before the fork is split; it keeps its gap if it is stolen once the left strand has finished.
@@ -54,4 +77,9 @@ pub fn worked_strands()
     ensures strands { TwoStrands }
     ensures none_owed { NoneOwed }
     ensures not_ready { NotReady }
+{}
+
+/// Computed example: a strand is owed a merge while another begins a block.
+pub fn worked_beside()
+    ensures { OwedBeside }
 {}

@@ -109,7 +109,7 @@ module _ (s : SharedMoment) (w : IsWell s.machine) (h : StandsInOrder s.columns 
       omega (arith, b.parent, own, own_place)
 
   -- a fork that the strand made, and whose merge is owed, stands in its place
-  owed_there : (f : ℕ) → is_owed s f ≡ true → strand_of t f ≡ x → parent_of t f ≡ p
+  pub owed_there : (f : ℕ) → is_owed s f ≡ true → strand_of t f ≡ x → parent_of t f ≡ p
   owed_there f owed own =
       let r = w.sound.tree.rooted in
       let o = owed_is s f owed in

@@ -182,7 +182,7 @@ module _ (s : SharedMoment) (w : IsWell s.machine) (h : StandsInOrder s.columns 
   }
 
 -- the machine leaves it alone
-alone_after : (asked : List Node → List ℕ → Option ℤ → List ℕ) (first : List ℤ) (s u : SharedMoment) (e : SharedStep (at_any_time asked) s u) (x : ℕ) → RunsTogether (at_any_time asked) first s → is_running s.machine x ≡ true → is_about (at_any_time asked) s u e x ≡ false → IsLeftAlone s.machine u.machine x
+pub alone_after : (asked : List Node → List ℕ → Option ℤ → List ℕ) (first : List ℤ) (s u : SharedMoment) (e : SharedStep (at_any_time asked) s u) (x : ℕ) → RunsTogether (at_any_time asked) first s → is_running s.machine x ≡ true → is_about (at_any_time asked) s u e x ≡ false → IsLeftAlone s.machine u.machine x
 alone_after asked first s _ (makes e a all later) x run running other = others_leave_alone asked first s.machine (machine_reached (at_any_time asked) first s run) e a x running other
 alone_after asked first s _ (splits f whole early unstarted) x run running other = record { running = running; place = refl; begun = refl; free = refl; rolls_back = refl }
 alone_after asked first s _ (merges f e) x run running other = record { running = running; place = refl; begun = refl; free = refl; rolls_back = refl }

@@ -12,16 +12,16 @@ use Rattle.cw_open.proofs.WorkedTimes.Checks.{next_stamp, end_stamp}
 use Rattle.cw_hands.specs.Shared.{SharedMoment, moment_of, after_shared, first_shared, SharedStep, makes, splits, merges, RunsTogether, start, more}
 use Rattle.cw_hands.specs.Worked.{any_rules, no_words, alone, after_these, forked_once, stolen, in_blocks, given_up, joined_once, put_together, TwoStrands, NotReady, rejoined, inline_once, NoneOwed}
 
-abbrev Run : SharedMoment → Type 0
+abbrev pub Run : SharedMoment → Type 0
 Run s = RunsTogether any_rules [] s
 
 abbrev later_test : (s : SharedMoment) (p stamp n : ℕ) → Bool
 later_test s p stamp n = implies (nat_eq (trace_at s.columns s.machine.tree n) (trace_at s.columns s.machine.tree p)) (nat_le (stamp_of s.machine.tree n) stamp)
 
-later : (s : SharedMoment) (p stamp : ℕ) → all_below (later_test s p stamp) (length s.machine.tree) ≡ true → IsLater s.columns s.machine.tree p stamp
+pub later : (s : SharedMoment) (p stamp : ℕ) → all_below (later_test s p stamp) (length s.machine.tree) ≡ true → IsLater s.columns s.machine.tree p stamp
 later s p stamp e n h same = leb-true _ _ (implied _ _ (each_below (later_test s p stamp) (length s.machine.tree) e n h) (eq-eqb _ _ same))
 
-run_alone : Run alone
+pub run_alone : Run alone
 run_alone = start 5 no_words (omega arith) (omega arith) zeros
 
 run_forked : Run forked_once

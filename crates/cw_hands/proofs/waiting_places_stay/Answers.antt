@@ -1,0 +1,5 @@
+use Rattle.cw_hands.proofs.Laws.Waiting.{waiting_stay, owed_stay}
+use Rattle.cw_hands.proofs.waiting_places_stay.Goals as goal
+
+pub returns : goal.returns
+returns c = record { waiting = waiting_stay; owed = owed_stay }

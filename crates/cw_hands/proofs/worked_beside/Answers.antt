@@ -1,0 +1,5 @@
+use Rattle.cw_hands.proofs.Worked.Beside.{owed_beside}
+use Rattle.cw_hands.proofs.worked_beside.Goals as goal
+
+pub returns : goal.returns
+returns c = owed_beside

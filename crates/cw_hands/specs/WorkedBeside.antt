@@ -1,0 +1,54 @@
+-- A small run in which one strand waits for two, and one of these is owed a merge while the other begins a block.
+use Rattle.std.specs.Prelude.{◌≡◌, ◌&&◌, true, false, [], ◌∷◌}
+use Rattle.cw_tree.specs.Nodes.{is_pending}
+use Rattle.cw_tree.specs.Walks.{is_ancestor}
+use Rattle.cw_trace.specs.Columns.{used}
+use Rattle.cw_trace.specs.Stands.{column}
+use Rattle.cw_trace.specs.Hands.{gap_at}
+use Rattle.cw_open.specs.Machine.{is_running}
+use Rattle.cw_open.specs.Steps.{begins, finishes, forks, joins}
+use Rattle.cw_hands.specs.Shared.{SharedMoment, is_split, is_owed, goes_on, place_at, after_split, RunsTogether}
+use Rattle.cw_hands.specs.Worked.{any_rules, alone, after_these}
+
+-- main begins a block and forks, and the right strand is stolen
+abbrev pub outer_stolen : SharedMoment
+outer_stolen = after_split (after_these alone (begins 0 1 ∷ forks 0 2 ∷ [])) 2
+
+-- the left strand forks, and that right strand is stolen too
+abbrev pub inner_forked : SharedMoment
+inner_forked = after_these outer_stolen (forks 3 3 ∷ [])
+
+abbrev pub inner_stolen : SharedMoment
+inner_stolen = after_split inner_forked 5
+
+-- its strands finish and are joined, so the left strand is owed the merge
+abbrev pub owed_merge : SharedMoment
+owed_merge = after_these inner_stolen (finishes 6 false ∷ finishes 7 false ∷ joins 5 ∷ [])
+
+-- the right strand of main begins a block
+abbrev pub begun_beside : SharedMoment
+begun_beside = after_these owed_merge (begins 4 4 ∷ [])
+
+pub record OwedBeside : Type 0 where
+  pub run : RunsTogether any_rules [] begun_beside
+  -- the left strand runs, and does not go on
+  pub owed : (is_split owed_merge 5 && is_owed owed_merge 5) ≡ true
+  pub runs : is_running owed_merge.machine 3 ≡ true
+  pub waits : goes_on owed_merge 3 ≡ false
+  -- its column, its gap and the word of that, before and after the other begins a block
+  pub place : place_at owed_merge 3 ≡ 3
+  pub column_then : column owed_merge.machine.tree (used owed_merge.columns) 3 ≡ 1
+  pub gap_then : gap_at owed_merge.columns owed_merge.machine.tree 3 ≡ 1
+  pub words_then : owed_merge.words ≡ 1 ∷ 0 ∷ 0 ∷ 0 ∷ 0 ∷ []
+  pub column_now : column begun_beside.machine.tree (used begun_beside.columns) 3 ≡ 1
+  pub gap_now : gap_at begun_beside.columns begun_beside.machine.tree 3 ≡ 1
+  pub words_now : begun_beside.words ≡ 1 ∷ 0 ∷ 4 ∷ 0 ∷ 0 ∷ []
+  -- main waits in its block, which the word of its gap shows
+  pub main_waits : is_running owed_merge.machine 0 ≡ false
+  pub main_block : (is_pending owed_merge.machine.tree 1 && is_ancestor owed_merge.machine.tree 1 3) ≡ true
+  pub main_gap : gap_at begun_beside.columns begun_beside.machine.tree 1 ≡ 0
+  -- the inner fork took two columns, and its strands the gap of the left strand, whose word shows no block
+  pub fork_columns : (column inner_forked.machine.tree (used inner_forked.columns) 6 ≡ 3) × (column inner_forked.machine.tree (used inner_forked.columns) 7 ≡ 4)
+  -- the right strand got another gap when it was stolen
+  pub gap_whole : gap_at inner_forked.columns inner_forked.machine.tree 7 ≡ 1
+  pub gap_stolen : gap_at inner_stolen.columns inner_stolen.machine.tree 7 ≡ 4
