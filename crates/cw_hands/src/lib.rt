@@ -6,6 +6,8 @@
 
 ghost use Rattle.cw_hands.specs.Beside.{ColumnsStay, GapsStay, OwedStay, ShownWordsStay, TogetherGoOn, WaitingStay};
 ghost use Rattle.cw_hands.specs.Laws.{MachinesRun, MergedGoOn, OnlyReadyGoOn, OrderFollows, OrderIsKept, OthersLeaveReady, ReadyDiffer, ReadyGoOn, ReadyStay, TiersRun, TiersStand, TogetherAtAnyTime};
+ghost use Rattle.cw_hands.specs.LeftIdle.{IdleShowNone};
+ghost use Rattle.cw_hands.specs.NewColumns.{ForksGiveColumns};
 ghost use Rattle.cw_hands.specs.Worked.{NoneOwed, NotReady, TwoStrands};
 ghost use Rattle.cw_hands.specs.WorkedBeside.{OwedBeside};
 
@@ -60,6 +62,18 @@ pub fn columns_stay()
     ensures columns { ColumnsStay }
     ensures gaps { GapsStay }
     ensures words { ShownWordsStay }
+{}
+
+/// Law: if a ready strand forks while two columns are left, its two strands get the next two columns, and a gap whose word shows no
+/// block: that of the place where it forks if its word shows none, otherwise a new one.
+pub fn forks_give_columns()
+    ensures { ForksGiveColumns }
+{}
+
+/// Law: if the left strand of a fork goes on and is in no block of its own, the word of its gap shows no block. Until the fork is
+/// split, neither does that of the right strand.
+pub fn idle_left_strands()
+    ensures { IdleShowNone }
 {}
 
 /// Law: a step that is not about a running strand leaves the column and the gap of its place, and of each place above that, where
