@@ -1,7 +1,9 @@
 pub mod Beside
+pub mod Heard
 pub mod Laws
 pub mod LeftIdle
 pub mod NewColumns
 pub mod Shared
 pub mod Worked
 pub mod WorkedBeside
+pub mod WorkedHeard

@@ -5,11 +5,13 @@
 #![tactic(auto)]
 
 ghost use Rattle.cw_hands.specs.Beside.{ColumnsStay, GapsStay, OwedStay, ShownWordsStay, TogetherGoOn, WaitingStay};
+ghost use Rattle.cw_hands.specs.Heard.{ColumnsAreSound, ColumnsTell, CutsAreOnce, ForksLeaveReads, RightStays, VerdictsStay, WordsTell};
 ghost use Rattle.cw_hands.specs.Laws.{MachinesRun, MergedGoOn, OnlyReadyGoOn, OrderFollows, OrderIsKept, OthersLeaveReady, ReadyDiffer, ReadyGoOn, ReadyStay, TiersRun, TiersStand, TogetherAtAnyTime};
 ghost use Rattle.cw_hands.specs.LeftIdle.{IdleShowNone};
 ghost use Rattle.cw_hands.specs.NewColumns.{ForksGiveColumns};
 ghost use Rattle.cw_hands.specs.Worked.{NoneOwed, NotReady, TwoStrands};
 ghost use Rattle.cw_hands.specs.WorkedBeside.{OwedBeside};
+ghost use Rattle.cw_hands.specs.WorkedHeard.{HeardRows};
 
 use cw_open::Ruled;
 
@@ -84,6 +86,28 @@ pub fn waiting_places_stay()
     ensures owed { OwedStay }
 {}
 
+/// Law: at each moment, what is named in columns is in use, marks are there just where a column names a trace, and a trace around
+/// with a pending block has a lead. A fork leaves what a question reads of columns in use. Each fork is split once at most, and
+/// joined once.
+pub fn columns_are_sound()
+    ensures sound { ColumnsAreSound }
+    ensures reads { ForksLeaveReads }
+    ensures once { CutsAreOnce }
+{}
+
+/// Law: each gap word, as it is loaded, tells a strand that goes on rightly of each access, if it decides alone. So do the columns
+/// if the trace of the access has no lead.
+pub fn words_tell()
+    ensures words { WordsTell }
+    ensures columns { ColumnsTell }
+{}
+
+/// Law: a verdict that is right at the place of a running strand stays right, and a conflict can tell it, until that strand steps.
+pub fn verdicts_stay()
+    ensures right { RightStays }
+    ensures stay { VerdictsStay }
+{}
+
 /// Computed examples: small runs with two strands. Main waits between the join of their fork and its merge, and does not wait if
 /// the fork was not stolen. Three claims are false: main goes on as soon as the machine has joined the fork; the right strand goes
 /// on before the fork is split; it keeps its gap if it is stolen once the left strand has finished.
@@ -93,7 +117,9 @@ pub fn worked_strands()
     ensures not_ready { NotReady }
 {}
 
-/// Computed example: a strand is owed a merge while another begins a block.
+/// Computed examples: a strand is owed a merge while another begins a block; and one hears of what another wrote, by a word, before
+/// and after that one ends its block.
 pub fn worked_beside()
-    ensures { OwedBeside }
+    ensures owed { OwedBeside }
+    ensures heard { HeardRows }
 {}
