@@ -4,6 +4,7 @@ pub mod Around
 pub mod Beneath
 pub mod Beside
 pub mod Drawn
+pub mod EntriesAt
 pub mod Joined
 pub mod Judged
 pub mod Looked

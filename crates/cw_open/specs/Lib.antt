@@ -17,6 +17,7 @@ pub mod Looked
 pub mod Unfinished
 pub mod Joins
 pub mod Still
+pub mod EntriesAt
 pub mod Worked
 pub mod WorkedTimes
 pub mod WorkedHands

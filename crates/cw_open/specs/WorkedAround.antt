@@ -5,6 +5,7 @@ use Rattle.cw_code.specs.declared.Back.{Back}
 use Rattle.cw_tree.specs.Nodes.{is_fork, is_pending}
 use Rattle.cw_tree.specs.Walks.{has, nua}
 use Rattle.cw_tree.specs.Series.{place, children, parallel}
+use Rattle.cw_tree.specs.declared.access.Entry.{Entry}
 use Rattle.cw_tree.specs.Accesses.{is_live}
 use Rattle.cw_tree.specs.AccessStacks.{access_at}
 use Rattle.cw_tree.specs.Refusals.{refused_node}
@@ -16,6 +17,7 @@ use Rattle.cw_open.specs.Runs.{IsRun, IsMet, at_any_time}
 use Rattle.cw_open.specs.Around.{blocks_at, begins_at}
 use Rattle.cw_open.specs.Judged.{IsBarredBy, met_of}
 use Rattle.cw_open.specs.Joins.{rest_steps, RightHasCome}
+use Rattle.cw_open.specs.Left.{AreEntriesAt}
 use Rattle.cw_open.specs.Looked.{IsBeneath, IsFound, IsListFound}
 
 -- two cells, which have the value 0
@@ -121,3 +123,14 @@ pub record StillRows : Type 0 where
   pub before : is_pending (led_to right_refused).tree 6 ≡ true
   pub beside : is_pending (led_to (right_refused ++ commits 3 7 ∷ [])).tree 6 ≡ true
   pub own : is_pending (led_to (right_refused ++ undoes 4 1 ∷ aborts 4 7 ∷ [])).tree 6 ≡ false
+
+-- ## Entries
+
+-- the entry of the right strand's write
+abbrev pub second_entry : Entry
+second_entry = record { mark = record { strand = 0; stamp = 6 }; wrote = true; value = pos 8; old = pos 0 }
+
+pub record EntriesRows : Type 0 where
+  pub entries : AreEntriesAt (led_to both_wrote).tree (pos 0) (live (led_to both_wrote) 1) (second_entry ∷ [])
+  pub still_entries : AreEntriesAt (led_to left_closed).tree (pos 0) (live (led_to both_wrote) 1) (second_entry ∷ [])
+  pub none_before : AreEntriesAt (led_to both_wrote).tree (pos 0) (live_beside (led_to both_wrote) 6 1) []

@@ -15,6 +15,7 @@
 #![tactic(auto)]
 
 ghost use Rattle.cw_open.specs.Around.{AroundStays};
+ghost use Rattle.cw_open.specs.EntriesAt.{EntriesBegin, EntriesMore, EntriesStay};
 ghost use Rattle.cw_open.specs.Hands.{AheadIsNext, AllowedAtAnyTime, BeneathIsOwn, ConflictsAreTold, DrawnStay, EndStampsStay, ForkersRunAgain, JoinsLeaveAlone, MetInTimeStays, MetStays, NewestStay, NextStampsStay, NoneConflictsMore, OthersLeaveAlone, PlacesPart, RunsAreInTime, RunsBegin, RunsGoOn, StrandsMayJoin, TimesAreLow};
 ghost use Rattle.cw_open.specs.Joins.{ForkersGoOn, RestLeavesAlone, RightMayJoin};
 ghost use Rattle.cw_open.specs.Judged.{AccessesStay, BarredAreMet, BarredArePart, FreeStay, WithinStay};
@@ -29,7 +30,7 @@ ghost use Rattle.cw_open.specs.Spent.{SpentAreInOrder};
 ghost use Rattle.cw_open.specs.Still.{StillStays};
 ghost use Rattle.cw_open.specs.Unfinished.{OneForkIsAwaited, RootsLeaveNone, UnfinishedAreLive, UntoldAreFree};
 ghost use Rattle.cw_open.specs.Worked.{Beneath, GivenUp, Inside, InnerCommitted, LeftStrands, Outer, Twice};
-ghost use Rattle.cw_open.specs.WorkedAround.{PutBackRows, RightJoins, StillRows, TwoBlocks};
+ghost use Rattle.cw_open.specs.WorkedAround.{EntriesRows, PutBackRows, RightJoins, StillRows, TwoBlocks};
 ghost use Rattle.cw_open.specs.WorkedHands.{BroughtByOther, TwoHands};
 ghost use Rattle.cw_open.specs.WorkedTimes.{DrawnEarly, RefusedLate};
 
@@ -289,6 +290,14 @@ pub fn refused_stay()
     ensures still { StillStays }
 {}
 
+/// Entries of a list's accesses: those of its beginning are its first ones, an access more has an entry more, and a step leaves those of
+/// the accesses that were there.
+pub fn entries_of_lists()
+    ensures begin { EntriesBegin }
+    ensures more { EntriesMore }
+    ensures stay { EntriesStay }
+{}
+
 /// What the definitions say of small runs.
 pub fn worked_runs()
     ensures inside { Inside }
@@ -322,4 +331,5 @@ pub fn worked_around()
     ensures put_back { PutBackRows }
     ensures joins { RightJoins }
     ensures still { StillRows }
+    ensures entries { EntriesRows }
 {}
