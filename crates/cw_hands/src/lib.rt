@@ -1,7 +1,10 @@
 //! Several hands: laws on runs of the open machine and of the tier together, in which strands step in turn. No code here runs.
 //! Use them for a runtime in which several strands share a tier.
 //! Contracts cite `specs/Shared.antt` (moments, which strands may go on, the steps, what each step needs, and runs) and
-//! `specs/Laws.antt` (what is true of all runs). `specs/Worked.antt` tries them.
+//! `specs/Laws.antt` (what is true of all runs). `specs/Beside.antt` says what steps leave of columns, gaps and gap words,
+//! `specs/NewColumns.antt` what a fork gives its strands, and `specs/LeftIdle.antt` what is true of left strands that are in
+//! no block of their own. `specs/Heard.antt` says what columns and words tell a strand of an access, and that it stays right.
+//! `specs/Worked.antt`, `specs/WorkedBeside.antt` and `specs/WorkedHeard.antt` try them.
 #![tactic(auto)]
 
 ghost use Rattle.cw_hands.specs.Beside.{ColumnsStay, GapsStay, OwedStay, ShownWordsStay, TogetherGoOn, WaitingStay};

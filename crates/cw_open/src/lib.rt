@@ -10,7 +10,8 @@
 //! `specs/Hands.antt` says what the steps of other strands leave unchanged, `specs/Around.antt` what they leave of the
 //! nodes around a strand, `specs/Judged.antt` what a strand has learned of accesses, and `specs/Looked.antt` what it found
 //! beneath its block and puts back. `specs/Unfinished.antt` is about strands that have not finished,
-//! `specs/Joins.antt` about forks whose left strand has, and `specs/Still.antt` about what conflicts refused.
+//! `specs/Joins.antt` about forks whose left strand has, `specs/Still.antt` about what conflicts refused, and
+//! `specs/EntriesAt.antt` about the entries of a list's beginning.
 //! `specs/Worked.antt`, `specs/WorkedTimes.antt`, `specs/WorkedHands.antt` and `specs/WorkedAround.antt` try them.
 #![tactic(auto)]
 
