@@ -12,5 +12,6 @@ pub mod Met
 pub mod PutBack
 pub mod Rest
 pub mod Still
+pub mod Tails
 pub mod Timed
 pub mod Unfinished

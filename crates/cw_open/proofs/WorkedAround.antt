@@ -10,7 +10,7 @@ use Rattle.cw_tree.proofs.Worked.Checks.{all_one}
 use Rattle.cw_open.specs.Steps.{first_machine}
 use Rattle.cw_open.specs.Runs.{IsRun, at_any_time}
 use Rattle.cw_open.specs.Looked.{accesses_of, IsFound}
-use Rattle.cw_open.specs.WorkedAround.{two_cells, led_to, both_wrote, right_took, TwoBlocks, second_zero, PutBackRows, RightJoins, StillRows, EntriesRows}
+use Rattle.cw_open.specs.WorkedAround.{two_cells, led_to, both_wrote, right_took, TwoBlocks, second_zero, PutBackRows, RightJoins, StillRows, EntriesRows, TailsRows}
 use Rattle.cw_open.proofs.WorkedTimes.Checks.{next_stamp, end_stamp, comes_last}
 
 run : IsRun (at_any_time (λ t us w. newest us)) (first_machine two_cells) right_took
@@ -103,3 +103,6 @@ entries_rows = record {
   still_entries = (record { stamp = refl; wrote = refl; value = refl; old = refl }, tt);
   none_before = tt;
 }
+
+pub tails_rows : TailsRows
+tails_rows = record { first_try = (refl, refl); rolled_back = refl; second_try = (refl, refl, refl) }

@@ -18,6 +18,7 @@ pub mod Unfinished
 pub mod Joins
 pub mod Still
 pub mod EntriesAt
+pub mod Tails
 pub mod Worked
 pub mod WorkedTimes
 pub mod WorkedHands

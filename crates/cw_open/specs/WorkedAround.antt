@@ -7,6 +7,7 @@ use Rattle.cw_tree.specs.Walks.{has, nua}
 use Rattle.cw_tree.specs.Series.{place, children, parallel}
 use Rattle.cw_tree.specs.declared.access.Entry.{Entry}
 use Rattle.cw_tree.specs.Accesses.{is_live}
+use Rattle.cw_tree.specs.Attempts.{block_attempt}
 use Rattle.cw_tree.specs.AccessStacks.{access_at}
 use Rattle.cw_tree.specs.Refusals.{refused_node}
 use Rattle.cw_tree.specs.VictimsAt.{victim_at}
@@ -19,6 +20,7 @@ use Rattle.cw_open.specs.Judged.{IsBarredBy, met_of}
 use Rattle.cw_open.specs.Joins.{rest_steps, RightHasCome}
 use Rattle.cw_open.specs.Left.{AreEntriesAt}
 use Rattle.cw_open.specs.Looked.{IsBeneath, IsFound, IsListFound}
+use Rattle.cw_open.specs.Tails.{aborted_last, tried_last}
 
 -- two cells, which have the value 0
 abbrev pub two_cells : List ℤ
@@ -134,3 +136,14 @@ pub record EntriesRows : Type 0 where
   pub entries : AreEntriesAt (led_to both_wrote).tree (pos 0) (live (led_to both_wrote) 1) (second_entry ∷ [])
   pub still_entries : AreEntriesAt (led_to left_closed).tree (pos 0) (live (led_to both_wrote) 1) (second_entry ∷ [])
   pub none_before : AreEntriesAt (led_to both_wrote).tree (pos 0) (live_beside (led_to both_wrote) 6 1) []
+
+-- ## How a place ends
+
+-- the right strand rolls its block back, begins it again, and is refused in it
+abbrev pub tried_again : List Step
+tried_again = right_refused ++ undoes 4 1 ∷ aborts 4 7 ∷ begins 4 8 ∷ refuses 4 0 None (met_of 5 3) ∷ []
+
+pub record TailsRows : Type 0 where
+  pub first_try : (block_attempt (led_to right_refused).tree 6 ≡ 1) × (tried_last (led_to right_refused).tree 6 0 ≡ 1)
+  pub rolled_back : aborted_last (led_to (right_refused ++ undoes 4 1 ∷ aborts 4 7 ∷ [])).tree 4 ≡ 1
+  pub second_try : (block_attempt (led_to tried_again).tree 10 ≡ 2) × (aborted_last (led_to tried_again).tree 4 ≡ 0) × (tried_last (led_to tried_again).tree 10 0 ≡ 1)

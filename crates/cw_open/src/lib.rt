@@ -29,9 +29,10 @@ ghost use Rattle.cw_open.specs.Reordered.{CancelsStay, CellsStay, EndsStay, Faul
 ghost use Rattle.cw_open.specs.Refused.{AbortedAreVictims, AheadIsTimely, AskersAreTried, AtOnceIsTold, CommittedAreSafe, ConflictsAreRecorded, DeadGoBack, DyingGoBack, StopsAreLeftOut, ToldIsAtAnyTime};
 ghost use Rattle.cw_open.specs.Spent.{SpentAreInOrder};
 ghost use Rattle.cw_open.specs.Still.{StillStays};
+ghost use Rattle.cw_open.specs.Tails.{TailsClose, TailsGrow};
 ghost use Rattle.cw_open.specs.Unfinished.{OneForkIsAwaited, RootsLeaveNone, UnfinishedAreLive, UntoldAreFree};
 ghost use Rattle.cw_open.specs.Worked.{Beneath, GivenUp, Inside, InnerCommitted, LeftStrands, Outer, Twice};
-ghost use Rattle.cw_open.specs.WorkedAround.{EntriesRows, PutBackRows, RightJoins, StillRows, TwoBlocks};
+ghost use Rattle.cw_open.specs.WorkedAround.{EntriesRows, PutBackRows, RightJoins, StillRows, TailsRows, TwoBlocks};
 ghost use Rattle.cw_open.specs.WorkedHands.{BroughtByOther, TwoHands};
 ghost use Rattle.cw_open.specs.WorkedTimes.{DrawnEarly, RefusedLate};
 
@@ -299,6 +300,13 @@ pub fn entries_of_lists()
     ensures stay { EntriesStay }
 {}
 
+/// How the nodes in a place end, which attempts are counted by: a new node comes behind them, and a block that is closed there as the
+/// last one is the last rolled-back one, or ends their row.
+pub fn places_end()
+    ensures grow { TailsGrow }
+    ensures close { TailsClose }
+{}
+
 /// What the definitions say of small runs.
 pub fn worked_runs()
     ensures inside { Inside }
@@ -333,4 +341,5 @@ pub fn worked_around()
     ensures joins { RightJoins }
     ensures still { StillRows }
     ensures entries { EntriesRows }
+    ensures tails { TailsRows }
 {}
