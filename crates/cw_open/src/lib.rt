@@ -11,7 +11,7 @@
 //! nodes around a strand, `specs/Judged.antt` what a strand has learned of accesses, and `specs/Looked.antt` what it found
 //! beneath its block and puts back. `specs/Unfinished.antt` is about strands that have not finished,
 //! `specs/Joins.antt` about forks whose left strand has, `specs/Still.antt` about what conflicts refused, and
-//! `specs/EntriesAt.antt` about the entries of a list's beginning.
+//! `specs/EntriesAt.antt` about the entries of a list's beginning. `specs/Tails.antt` says how the nodes in a place end.
 //! `specs/Worked.antt`, `specs/WorkedTimes.antt`, `specs/WorkedHands.antt` and `specs/WorkedAround.antt` try them.
 #![tactic(auto)]
 

@@ -26,7 +26,7 @@ filter_filter p q (x ∷ xs) = by (p x) (filter_filter p q xs) where
   by false more = more
 
 -- the numbers below k that pass a test and are below n are those below n that pass it
-front : (p : ℕ → Bool) (k n : ℕ) → n ≤ k → filter (λ m. nat_lt m n) (filter p (below k)) ≡ filter p (below n)
+pub front : (p : ℕ → Bool) (k n : ℕ) → n ≤ k → filter (λ m. nat_lt m n) (filter p (below k)) ≡ filter p (below n)
 front p k n le =
     filter_filter p (λ m. nat_lt m n) (below k)
     ∙ below_none (λ m. p m && nat_lt m n) n k le (λ m low high. and_right (p m) (nat_lt m n) (false_from_ne_true (nat_lt m n) (λ e. absurd (let h = ltb-true m n e in omega arith))))
