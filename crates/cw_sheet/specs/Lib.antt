@@ -1,0 +1,5 @@
+pub mod Contents
+pub mod SheetText
+pub mod Items
+pub mod Reading
+pub mod Worked
