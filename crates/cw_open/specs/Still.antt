@@ -1,5 +1,5 @@
--- What a conflict refused, and what stands still since, as others step.
-use Rattle.std.specs.Prelude.{◌≡◌, ℕ, false, Contains}
+-- What a conflict refused stays as it was when refused, while others step.
+use Rattle.std.specs.Prelude.{◌≡◌, false, Contains}
 use Rattle.cw_tree.specs.declared.conflict.Conflict.{Conflict}
 use Rattle.cw_tree.specs.Series.{strand_of}
 use Rattle.cw_tree.specs.Refusals.{victim_of, refused_node}
