@@ -1,5 +1,5 @@
 -- Columns are closed and marked at each moment, a fork leaves what is read of them, and each fork is split and joined once.
-use Rattle.std.proofs.Common.{◌≡◌, ℕ, zero, suc, ◌+◌, ◌<◌, ◌≤◌, List, [], ◌∷◌, ◌++◌, length, refl, ap, sym, ◌∙◌, subst, arith, Bool, true, false, Option, Some, None, inl, inr, nat_eq}
+use Rattle.std.proofs.Common.{◌≡◌, ℕ, zero, suc, ◌<◌, ◌≤◌, List, [], ◌∷◌, ◌++◌, length, refl, ap, sym, ◌∙◌, subst, arith, Bool, true, false, Option, Some, None, inl, inr, nat_eq}
 use Rattle.std.specs.Prelude.{◌/◌, ◌&&◌, ◌||◌, not, ℤ, slice_get, slice_index, is_some, if◌then◌else◌}
 use Rattle.std.proofs.lemmas.Bool.{and_parts, cases_lt, cases_eq, not-true, false_from_ne_true}
 use Rattle.cw_tree.specs.declared.access.Mark.{Mark}
