@@ -1,4 +1,4 @@
-// A transfer is one block that spawns half of its work. Whoever adds up both cells sees 100.
+// A transfer is one block that spawns half of its work. Whoever adds up both cells in a block sees 100.
 cell from = 100;
 cell to;
 

@@ -71,7 +71,7 @@ often() {
 # ## Examples
 
 # the results of these do not depend on the schedule
-same='array count counter divisor fault fault.none halves loop spawned'
+same='array count counter divisor fault fault.none halves loop parts spawned'
 
 # without_workers WORD..: the words, a line each, without the option --workers
 without_workers() {
