@@ -1,0 +1,9 @@
+pub mod Claims
+pub mod Writers
+pub mod Stopped
+pub mod OneStrand
+pub mod Giver
+pub mod Givers
+pub mod Undone
+pub mod Divider
+pub mod Rows

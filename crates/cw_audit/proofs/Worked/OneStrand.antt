@@ -1,0 +1,146 @@
+-- One strand that adds 1 to a cell and outputs it.
+use Rattle.std.proofs.Common.{◌≡◌, ℕ, ℤ, zero, suc, List, [], ◌∷◌, map, take, refl, arith, Some, pos}
+use Rattle.std.specs.Prelude.{slice_get}
+use Rattle.cw_strand.specs.declared.want.Given.TheVariants.{Nothing, Value}
+use Rattle.cw_strand.specs.Pasts.{Past, start, answered, became}
+use Rattle.cw_strand.specs.Strands.{Strands}
+use Rattle.cw_tree.specs.declared.node.Node.{Node}
+use Rattle.cw_tree.specs.declared.node.Kind.TheVariants.{Strand, Read, Write, Out}
+use Rattle.cw_tree.specs.Accesses.{live_accesses, written, cell_value}
+use Rattle.cw_tree.specs.Shape.{AreStamps}
+use Rattle.cw_tree.specs.Worked.{plain}
+use Rattle.cw_tree.proofs.Cancels.{no_cancels}
+use Rattle.cw_tree.proofs.Worked.Checks.{is_tree, are_stamps, pending_last, rolls_back}
+use Rattle.cw_tree.proofs.Worked.KeptParts.{ended_between}
+use Rattle.cw_tree.proofs.Worked.KeptRuns.{ended_one}
+use Rattle.cw_job.specs.Room.Strands.{StrandState}
+use Rattle.cw_record.specs.declared.record_end.RecordEnd.TheVariants.{Finished, Moves}
+use Rattle.cw_record.specs.Coherent.{alone, Follows, EndStands}
+use Rattle.cw_record.proofs.WorkedEnds.Parts.{follows}
+use Rattle.cw_sheet.specs.Worked.{one_strand_run, one_strand_tree}
+use Rattle.cw_audit.specs.declared.findings.Audit.TheVariants.{Sound, Broken}
+use Rattle.cw_audit.specs.Parts.{strands_of_sheet, AreInRange}
+use Rattle.cw_audit.specs.Audits.{accesses, IsAudit}
+use Rattle.cw_audit.specs.Worked.{one_strand, writes_other}
+use Rattle.cw_audit.proofs.Worked.Claims.{Before, broken_row, sound_row, order_row, accesses_fit, none_pending, none_refused, no_fork, reads_of_one, past_in, all_over}
+
+abbrev s : Strands StrandState
+s = strands_of_sheet one_strand_run
+
+abbrev p1 : Past
+p1 = answered start (Value (pos 0))
+
+abbrev p2 : Past
+p2 = answered p1 Nothing
+
+abbrev p3 : Past
+p3 = answered p2 (Value (pos 1))
+
+abbrev p4 : Past
+p4 = answered p3 Nothing
+
+abbrev before : ℕ → StrandState
+before n = became s (past_in (start ∷ start ∷ p1 ∷ p2 ∷ p3 ∷ []) n)
+
+abbrev after : ℕ → StrandState
+after n = became s (past_in (start ∷ p1 ∷ p2 ∷ p3 ∷ p4 ∷ []) n)
+
+-- main reached this
+abbrev reached : Past → ℕ → StrandState
+reached p n = became s (past_in (p ∷ []) n)
+
+did : Follows s one_strand_tree before after (reached p4)
+did =
+    follows s one_strand_tree before after (reached p4) refl
+    (((((tt, (refl, (refl, (refl, (refl, refl))))), tt), tt), tt), tt)
+    (tt, ((refl, refl), ((refl, refl), ((refl, refl), ((refl, refl), tt)))))
+    refl
+
+did_some : Follows s (take 4 one_strand_tree) before after (reached p3)
+did_some =
+    follows s (take 4 one_strand_tree) before after (reached p3) refl
+    ((((tt, (refl, (refl, (refl, refl)))), tt), tt), tt)
+    (tt, ((refl, refl), ((refl, refl), ((refl, refl), tt))))
+    refl
+
+stands : (memory outputs : List ℤ) → EndStands s one_strand_tree before after (reached p4) (Finished memory outputs)
+stands memory outputs = (
+  none_pending one_strand_tree refl,
+  all_over s one_strand_tree before after (reached p4) (((((tt, alone {x = 0} refl (λ f e. no_fork one_strand_tree 4 f refl e)), tt), tt), tt), tt),
+)
+
+in_range : AreInRange one_strand_run.limits
+in_range = record {
+  fuel = (omega arith, omega arith);
+  size = (omega arith, omega arith);
+  aborts = (omega arith, omega arith);
+  strands = (omega arith, omega arith);
+  moves = (omega arith, omega arith);
+}
+
+value : (c : ℕ) (v : ℤ) → slice_get (pos 0 ∷ []) c ≡ Some v → slice_get (pos 1 ∷ []) c ≡ Some (cell_value v (map (written one_strand_tree) (live_accesses one_strand_tree c)))
+value zero v e = refl
+value (suc c) v e = absurd (cc e)
+
+-- the tree if this was written
+abbrev wrote : ℤ → List Node
+wrote v = plain 0 Strand 0 ∷ plain 0 (Read 0 (pos 0)) 1 ∷ plain 0 (Write 0 v) 2 ∷ plain 0 (Read 0 (pos 1)) 3 ∷ plain 0 (Out (pos 1)) 4 ∷ []
+
+stamps_of : (v : ℤ) → AreStamps (wrote v)
+stamps_of v = are_stamps (wrote v) refl refl refl refl refl refl refl refl refl
+
+-- parts 1 to 7, with these outputs
+whole : (outputs : List ℤ) → Before (one_strand one_strand_tree (Finished (pos 1 ∷ []) outputs)) 8
+whole outputs =
+    let t = one_strand_tree in (
+      stamps_of (pos 1),
+      record { cells = accesses_fit t 1 refl; reads = reads_of_one t (pos 0) (refl, (refl, (refl, tt))) },
+      ended_one t (ended_between t 1 2 refl, (ended_between t 2 3 refl, tt)),
+      record { refused = none_refused t refl refl refl; spent = λ is. tt },
+      record {
+        words = (_, refl, refl);
+        limits = in_range;
+        named = refl;
+        pending_last = pending_last t refl refl;
+        rolls_back = rolls_back t [] refl refl;
+        done = (before, after, reached p4, did, tt);
+      },
+      record { faulted = tt; memory = record { len = refl; each = value }; done = (before, after, reached p4, did, stands (pos 1 ∷ []) outputs) },
+      no_cancels t (pos 0 ∷ []) refl,
+      tt,
+    )
+
+pub counted : IsAudit one_strand_run Sound
+counted = sound_row one_strand_run (is_tree one_strand_tree (omega arith) refl refl refl refl refl) refl (whole (pos 1 ∷ [])) refl
+
+pub fewer_outputs : IsAudit (one_strand one_strand_tree (Finished (pos 1 ∷ []) [])) (Broken 8)
+fewer_outputs =
+    order_row (one_strand one_strand_tree (Finished (pos 1 ∷ []) [])) (is_tree one_strand_tree (omega arith) refl refl refl refl refl) refl (whole [])
+    (λ outs. (let e : [] ≡ pos 1 ∷ [] = outs in absurd (cc e)))
+
+pub cut_off : IsAudit (one_strand (take 4 one_strand_tree) Moves) Sound
+cut_off =
+    let t = take 4 one_strand_tree in
+    sound_row (one_strand t Moves) (is_tree t (omega arith) refl refl refl refl refl) refl (
+      are_stamps t refl refl refl refl refl refl refl refl refl,
+      record { cells = accesses_fit t 1 refl; reads = reads_of_one t (pos 0) (refl, (refl, (refl, tt))) },
+      ended_one t (ended_between t 1 2 refl, (ended_between t 2 3 refl, tt)),
+      record { refused = none_refused t refl refl refl; spent = λ is. tt },
+      record {
+        words = (_, refl, refl);
+        limits = in_range;
+        named = refl;
+        pending_last = pending_last t refl refl;
+        rolls_back = rolls_back t [] refl refl;
+        done = (before, after, reached p3, did_some, tt);
+      },
+      record { faulted = tt; memory = tt; done = (before, after, reached p3, did_some, tt) },
+      no_cancels t (pos 0 ∷ []) refl,
+      tt,
+    )
+    tt
+
+pub other_read : IsAudit (one_strand writes_other (Finished (pos 1 ∷ []) (pos 1 ∷ []))) (Broken 2)
+other_read =
+    broken_row (one_strand writes_other (Finished (pos 1 ∷ []) (pos 1 ∷ []))) accesses (stamps_of (pos 7), tt, tt, tt, tt, tt, tt, tt)
+    (λ w. (let e : pos 1 ≡ pos 7 = (w.reads 0 (pos 0) refl).1.1.0 (pos 1) refl in absurd (cc e)))

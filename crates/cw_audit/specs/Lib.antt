@@ -1,0 +1,5 @@
+pub mod Journals
+pub mod Parts
+pub mod Audits
+pub mod Laws
+pub mod Worked

@@ -1,0 +1,275 @@
+-- Small sheets that are sound, and the first part that breaks if one thing in them is changed.
+use Rattle.std.specs.Prelude.{ℕ, ℤ, pos, List, [], ◌∷◌, codes, take}
+use Rattle.cw_text.specs.declared.ast.Op.TheVariants.{Add, Div}
+use Rattle.cw_text.specs.Grammar.{word_at}
+use Rattle.cw_text.specs.Syntax.{Block, empty, first, Declaration, cell, func, Statement, assign, atomic, cancel, out, spawn, Term, binary, name, number}
+use Rattle.cw_code.specs.declared.FaultKind.{FaultKind}
+use Rattle.cw_code.specs.declared.FaultKind.TheVariants.{Zero, Overflow}
+use Rattle.cw_code.specs.Ranges.{default_limits}
+use Rattle.cw_tree.specs.declared.conflict.Conflict.{Conflict}
+use Rattle.cw_tree.specs.declared.node.Node.{Node}
+use Rattle.cw_tree.specs.declared.node.Kind.TheVariants.{Strand, Fork, Read, Write, Out, Tried, Cancel}
+use Rattle.cw_tree.specs.Worked.{plain, pending, committed, aborted, apart}
+use Rattle.cw_tree.specs.WorkedRun.{refused_write, had}
+use Rattle.cw_record.specs.declared.record_end.RecordEnd.{RecordEnd}
+use Rattle.cw_record.specs.declared.record_end.RecordEnd.TheVariants.{Finished, Fault, Budget, Moves}
+use Rattle.cw_record.specs.WorkedEnds.{divided, refused_in_block}
+use Rattle.cw_sheet.specs.Contents.{Contents}
+use Rattle.cw_sheet.specs.Worked.{one_strand_run, one_strand_tree}
+use Rattle.cw_audit.specs.declared.findings.Audit.TheVariants.{Sound, Broken}
+use Rattle.cw_audit.specs.Audits.{IsAudit}
+
+-- ## Sources, all on line 1
+
+abbrev pub block : List Statement → Block
+block [] = empty
+block (s ∷ ss) = first s (block ss)
+
+abbrev pub main_with : List Statement → Declaration
+main_with ss = func (codes "main") 1 [] (block ss)
+
+-- a cell with its first value, what the cell holds, and an assignment
+abbrev pub cell_with : List ℕ → ℤ → Declaration
+cell_with x v = cell x 1 0 v
+
+abbrev pub held_by : List ℕ → Term
+held_by x = name (word_at x 1)
+
+abbrev pub sets : List ℕ → Term → Statement
+sets x e = assign (word_at x 1) e
+
+-- ## Two writers
+--
+-- cell c; fn main() { spawn { atomic { c = 1; } } atomic { atomic { c = 2; } } }
+--
+-- The right strand is refused in its inner block, its outer block is rolled back, and both are done again.
+
+abbrev pub writers_source : List Declaration
+writers_source =
+    cell_with (codes "c") (pos 0)
+    ∷ main_with (
+    spawn (block (atomic (block (sets (codes "c") (number (pos 1)) ∷ [])) ∷ []))
+    ∷ atomic (block (atomic (block (sets (codes "c") (number (pos 2)) ∷ [])) ∷ []))
+    ∷ [])
+    ∷ []
+
+-- the tree with this stamp of the fork, this block of the left strand, this inner block at the first attempt, and this last write
+abbrev pub writers_tree : (fork : ℕ) (left inner last : Node) → List Node
+writers_tree fork left inner last =
+    plain 0 Strand 0 ∷ plain 0 Fork fork ∷ plain 1 Strand 0 ∷ left ∷ plain 3 (Write 0 (pos 1)) 3 ∷ plain 1 Strand 0 ∷ aborted 5 4 8 ∷ inner
+    ∷ plain 7 (Tried 0) 0 ∷ committed 5 9 13 ∷ committed 9 10 12 ∷ last ∷ []
+
+abbrev pub last_write : (element : ℕ) → ℤ → Node
+last_write c v = plain 10 (Write c v) 11
+
+abbrev pub writers : List Node → List Conflict → RecordEnd → Contents
+writers t cs e = record { source = record { language = 1; items = writers_source }; words = []; limits = default_limits; tree = t; conflicts = cs; end = e }
+
+abbrev pub in_writers : List Node → Contents
+in_writers t = writers t (refused_write ∷ []) (Finished (pos 2 ∷ []) [])
+
+abbrev pub writers_run : List Node
+writers_run = writers_tree 1 (committed 2 2 6) (aborted 6 5 7) (last_write 0 (pos 2))
+
+abbrev pub two_writers : Contents
+two_writers = in_writers writers_run
+
+-- the same run with this end
+abbrev pub ended_with : (memory outputs : List ℤ) → Contents
+ended_with memory outputs = writers writers_run (refused_write ∷ []) (Finished memory outputs)
+
+-- the same run, stopped at the refusal by a budget of 1 in the right strand
+abbrev pub stopped_by : (budget strand : ℕ) → Contents
+stopped_by budget strand = record (writers apart (refused_write ∷ []) (Budget strand)) { limits = record default_limits { aborts = budget } }
+
+-- ## One strand
+--
+-- cell c; fn main() { c = c + 1; out c; }
+
+-- its tree with another value written
+abbrev pub writes_other : List Node
+writes_other = plain 0 Strand 0 ∷ plain 0 (Read 0 (pos 0)) 1 ∷ plain 0 (Write 0 (pos 7)) 2 ∷ plain 0 (Read 0 (pos 1)) 3 ∷ plain 0 (Out (pos 1)) 4 ∷ []
+
+abbrev pub one_strand : List Node → RecordEnd → Contents
+one_strand t e = record one_strand_run { tree = t; end = e }
+
+-- ## A block that gives up
+--
+-- language 2; cell c = 5; fn main() { atomic { c = 9; out c; cancel; out 1; } out c; }
+
+abbrev pub giver_source : List Declaration
+giver_source =
+    cell_with (codes "c") (pos 5)
+    ∷ main_with (
+    atomic (block (sets (codes "c") (number (pos 9)) ∷ out (held_by (codes "c")) ∷ cancel 1 ∷ out (number (pos 1)) ∷ []))
+    ∷ out (held_by (codes "c"))
+    ∷ [])
+    ∷ []
+
+-- the block puts back a value as its list says, writes one, and the strand then sees one
+abbrev pub giver_tree : (listed wrote seen : ℤ) → List Node
+giver_tree listed wrote seen =
+    plain 0 Strand 0 ∷ committed 0 1 7 ∷ plain 1 (Write 0 (pos 9)) 2 ∷ plain 1 (Read 0 (pos 9)) 3 ∷ plain 1 (Out (pos 9)) 4
+    ∷ plain 1 (Cancel (had 0 listed ∷ [])) 5 ∷ plain 1 (Write 0 wrote) 6 ∷ plain 0 (Read 0 seen) 8 ∷ plain 0 (Out seen) 9 ∷ []
+
+abbrev pub giver : (listed wrote seen : ℤ) → Contents
+giver listed wrote seen = record {
+  source = record { language = 2; items = giver_source };
+  words = [];
+  limits = default_limits;
+  tree = giver_tree listed wrote seen;
+  conflicts = [];
+  end = Finished (seen ∷ []) (pos 9 ∷ seen ∷ []);
+}
+
+-- ## A block with two strands that gives up
+--
+-- language 2; cell a = 1; cell b = 2; fn main() { atomic { spawn { a = 7; } atomic { b = 8; } cancel; } }
+
+abbrev pub givers_source : List Declaration
+givers_source =
+    cell_with (codes "a") (pos 1)
+    ∷ cell_with (codes "b") (pos 2)
+    ∷ main_with (
+    atomic (block (
+    spawn (block (sets (codes "a") (number (pos 7)) ∷ []))
+    ∷ atomic (block (sets (codes "b") (number (pos 8)) ∷ []))
+    ∷ cancel 1
+    ∷ []))
+    ∷ [])
+    ∷ []
+
+abbrev pub givers_tree : List Node
+givers_tree =
+    plain 0 Strand 0 ∷ committed 0 1 10 ∷ plain 1 Fork 2 ∷ plain 2 Strand 0 ∷ plain 3 (Write 0 (pos 7)) 3 ∷ plain 2 Strand 0 ∷ committed 5 4 6
+    ∷ plain 6 (Write 1 (pos 8)) 5 ∷ plain 1 (Cancel (had 0 (pos 1) ∷ had 1 (pos 2) ∷ [])) 7 ∷ plain 1 (Write 0 (pos 1)) 8
+    ∷ plain 1 (Write 1 (pos 2)) 9 ∷ []
+
+abbrev pub two_givers : Contents
+two_givers = record {
+  source = record { language = 2; items = givers_source };
+  words = [];
+  limits = default_limits;
+  tree = givers_tree;
+  conflicts = [];
+  end = Finished (pos 1 ∷ pos 2 ∷ []) [];
+}
+
+-- ## An attempt that is rolled back after it gave up
+--
+-- language 2; cell c; cell d; fn main() { spawn { atomic { c = 1; } } atomic { d = d + 1; cancel; } }
+--
+-- In the first attempt of the right strand d was read as 100, and a list was given that names an element that is not there. Both are
+-- free in an attempt that is rolled back: the strand only has to do what follows from them.
+
+abbrev pub undone_source : List Declaration
+undone_source =
+    cell_with (codes "c") (pos 0)
+    ∷ cell_with (codes "d") (pos 0)
+    ∷ main_with (
+    spawn (block (atomic (block (sets (codes "c") (number (pos 1)) ∷ [])) ∷ []))
+    ∷ atomic (block (sets (codes "d") (binary Add (held_by (codes "d")) (number (pos 1))) ∷ cancel 1 ∷ []))
+    ∷ [])
+    ∷ []
+
+-- the first attempt writes this value
+abbrev pub undone_tree : (wrote : ℤ) → List Node
+undone_tree wrote =
+    plain 0 Strand 0 ∷ plain 0 Fork 1 ∷ plain 1 Strand 0 ∷ committed 2 2 8 ∷ plain 3 (Write 0 (pos 1)) 3 ∷ plain 1 Strand 0
+    ∷ aborted 5 4 9 ∷ plain 6 (Read 1 (pos 100)) 5 ∷ plain 6 (Write 1 wrote) 6 ∷ plain 6 (Cancel (had 0 (pos 5) ∷ had 7 (pos 5) ∷ [])) 7 ∷ plain 6 (Tried 0) 0
+    ∷ committed 5 10 15 ∷ plain 11 (Read 1 (pos 0)) 11 ∷ plain 11 (Write 1 (pos 1)) 12 ∷ plain 11 (Cancel (had 1 (pos 0) ∷ [])) 13 ∷ plain 11 (Write 1 (pos 0)) 14 ∷ []
+
+abbrev pub refused_store : Conflict
+refused_store = record { cell = 0; last = 3; asker = 10; block = 2; victim = 4; attempt = 1; chain = 3 ∷ [] }
+
+abbrev pub undone : (wrote : ℤ) → Contents
+undone wrote = record {
+  source = record { language = 2; items = undone_source };
+  words = [];
+  limits = default_limits;
+  tree = undone_tree wrote;
+  conflicts = refused_store ∷ [];
+  end = Finished (pos 1 ∷ pos 0 ∷ []) [];
+}
+
+-- ## A fault in a block that another strand was about to have rolled back
+--
+-- cell c; cell d; fn main() { spawn { atomic { c = 1; c = 2; } } atomic { spawn { c = 3; } d = 1 / d; } }
+
+abbrev pub divider_source : List Declaration
+divider_source =
+    cell_with (codes "c") (pos 0)
+    ∷ cell_with (codes "d") (pos 0)
+    ∷ main_with (
+    spawn (block (atomic (block (sets (codes "c") (number (pos 1)) ∷ sets (codes "c") (number (pos 2)) ∷ [])) ∷ []))
+    ∷ atomic (block (
+    spawn (block (sets (codes "c") (number (pos 3)) ∷ []))
+    ∷ sets (codes "d") (binary Div (number (pos 1)) (held_by (codes "d")))
+    ∷ []))
+    ∷ [])
+    ∷ []
+
+-- the block of the right strand, and the fault at which the strand in it stopped
+abbrev pub divider : Node → FaultKind → Contents
+divider b kind = record {
+  source = record { language = 1; items = divider_source };
+  words = [];
+  limits = default_limits;
+  tree = divided b (pos 0);
+  conflicts = refused_in_block ∷ [];
+  end = Fault 10 kind;
+}
+
+-- ## What is sound
+
+pub record SoundSheets : Type 0 where
+  pub finished : IsAudit two_writers Sound
+  -- a fork's stamp may exceed those in its strands
+  pub late_fork : IsAudit (in_writers (writers_tree 14 (committed 2 2 6) (aborted 6 5 7) (last_write 0 (pos 2)))) Sound
+  pub stopped : IsAudit (stopped_by 1 5) Sound
+  pub counted : IsAudit one_strand_run Sound
+  -- the moves were used up before the output
+  pub cut_off : IsAudit (one_strand (take 4 one_strand_tree) Moves) Sound
+  pub given_up : IsAudit (giver (pos 5) (pos 5) (pos 5)) Sound
+  pub both_given_up : IsAudit two_givers Sound
+  pub rolled_back : IsAudit (undone (pos 101)) Sound
+  pub faulted : IsAudit (divider (pending 5 4) Zero) Sound
+
+-- ## What breaks
+
+pub record BrokenSheets : Type 0 where
+  -- a block ends at the stamp of its write; a pending block has an end
+  pub same_stamp : IsAudit (in_writers (writers_tree 1 (committed 2 2 3) (aborted 6 5 7) (last_write 0 (pos 2)))) (Broken 1)
+  pub pending_end : IsAudit (in_writers (writers_tree 1 (record (pending 2 2) { end = 6 }) (aborted 6 5 7) (last_write 0 (pos 2)))) (Broken 1)
+  -- a write of a cell that is not there; a read of what was not written
+  pub no_cell : IsAudit (in_writers (writers_tree 1 (committed 2 2 6) (aborted 6 5 7) (last_write 1 (pos 2)))) (Broken 2)
+  pub other_read : IsAudit (one_strand writes_other (Finished (pos 1 ∷ []) (pos 1 ∷ []))) (Broken 2)
+  pub written_back : IsAudit (giver (pos 6) (pos 6) (pos 5)) (Broken 2)
+  -- the left strand's block ends after the right strand wrote the cell
+  pub late_end : IsAudit (in_writers (writers_tree 1 (committed 2 2 14) (aborted 6 5 7) (last_write 0 (pos 2)))) (Broken 3)
+  -- a refused access without a conflict; a conflict without a chain; a budget that was not spent, or not by this strand
+  pub no_conflict : IsAudit (writers writers_run [] (Finished (pos 2 ∷ []) [])) (Broken 4)
+  pub no_chain : IsAudit (writers writers_run (record refused_write { chain = [] } ∷ []) (Finished (pos 2 ∷ []) [])) (Broken 4)
+  pub unspent : IsAudit (stopped_by 2 5) (Broken 4)
+  pub other_strand : IsAudit (stopped_by 1 2) (Broken 4)
+  -- a word too many; a limit out of range; an end at what is no strand
+  pub word : IsAudit (record two_writers { words = pos 7 ∷ [] }) (Broken 5)
+  pub no_fuel : IsAudit (record two_writers { limits = record default_limits { fuel = 0 } }) (Broken 5)
+  pub no_strand : IsAudit (stopped_by 1 3) (Broken 5)
+  -- a block is pending inside one that was rolled back
+  pub pending_inside : IsAudit (writers (writers_tree 1 (committed 2 2 6) (pending 6 5) (last_write 0 (pos 2))) (refused_write ∷ []) Moves) (Broken 5)
+  -- what was written, or written back, is not what the strand wants to write, in an attempt that is rolled back too
+  pub other_write : IsAudit (in_writers (writers_tree 1 (committed 2 2 6) (aborted 6 5 7) (last_write 0 (pos 3)))) (Broken 5)
+  pub other_list : IsAudit (giver (pos 6) (pos 5) (pos 5)) (Broken 5)
+  pub undone_write : IsAudit (undone (pos 9)) (Broken 5)
+  -- the strand is at another fault; it is at its fault, but the block around it was rolled back
+  pub other_fault : IsAudit (divider (pending 5 4) Overflow) (Broken 5)
+  pub undone_fault : IsAudit (divider (aborted 5 4 7) Zero) (Broken 6)
+  -- another memory, and one cell too many
+  pub other_memory : IsAudit (ended_with (pos 3 ∷ []) []) (Broken 6)
+  pub more_memory : IsAudit (ended_with (pos 2 ∷ pos 0 ∷ []) []) (Broken 6)
+  -- the list of a cancel is followed, but is not what the block has to put back
+  pub wrong_list : IsAudit (giver (pos 6) (pos 6) (pos 6)) (Broken 7)
+  -- outputs that were not made, and one that is left out
+  pub more_outputs : IsAudit (ended_with (pos 2 ∷ []) (pos 1 ∷ [])) (Broken 8)
+  pub fewer_outputs : IsAudit (one_strand one_strand_tree (Finished (pos 1 ∷ []) [])) (Broken 8)

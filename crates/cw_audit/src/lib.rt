@@ -1,0 +1,42 @@
+//! Audits of record sheets: whether a run can have been as its sheet tells. Definitions and laws; no call audits yet.
+//! Use the laws to conclude from its parts that a sheet tells a coherent run, or from a coherent record that its sheet is sound.
+//! Contracts cite `specs/Audits.antt` (what an audit answers), over `specs/Parts.antt` (the parts) and `specs/Journals.antt` (the
+//! journals that a tree tells), and `specs/Laws.antt` (what the parts say together). `specs/Worked.antt` tries them on examples.
+#![tactic(auto)]
+
+ghost use Rattle.cw_audit.specs.Laws.{AuditsAreOne, CoherentAreSound, OnlyOutputsBreakOrder, OrderIsOutputs, PartsAreCoherence, RecordsByParts};
+ghost use Rattle.cw_audit.specs.Worked.{BrokenSheets, SoundSheets};
+
+mod findings;
+
+pub use findings::Audit;
+
+/// Law: parts 1 to 7 of a sheet hold exactly if the sheet tells a coherent run of its program, with words and limits as they may
+/// be. The same for a record's sheet, if the record's journals are those of its tree.
+pub fn parts_are_coherence()
+    ensures sheets { PartsAreCoherence }
+    ensures records { RecordsByParts }
+{}
+
+/// Law: the sheet of a coherent record that has its outputs, and whose limits are in range, is sound.
+pub fn coherent_are_sound()
+    ensures { CoherentAreSound }
+{}
+
+/// Law: once parts 1 to 7 hold, part 8 is about outputs alone. If it does not hold, one memory finishes with the same memory and
+/// other outputs.
+pub fn order_is_outputs()
+    ensures holds { OrderIsOutputs }
+    ensures breaks { OnlyOutputsBreakOrder }
+{}
+
+/// Law: no sheet has two answers.
+pub fn audits_are_one()
+    ensures { AuditsAreOne }
+{}
+
+/// Computed examples: small sheets that are sound, and the first part that breaks if one thing in them is changed.
+pub fn worked_audits()
+    ensures sound { SoundSheets }
+    ensures broken { BrokenSheets }
+{}
