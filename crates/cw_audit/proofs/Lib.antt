@@ -3,4 +3,5 @@ pub mod Coherence
 pub mod Records
 pub mod Order
 pub mod OneAnswer
+pub mod OverSource
 mod Worked

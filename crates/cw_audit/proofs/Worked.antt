@@ -6,4 +6,7 @@ pub mod Giver
 pub mod Givers
 pub mod Undone
 pub mod Divider
+pub mod Nested
+pub mod Readers
+pub mod Small
 pub mod Rows

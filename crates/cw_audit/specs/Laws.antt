@@ -3,6 +3,7 @@ use Rattle.std.specs.Prelude.{◌≡◌, ◌↔◌, ℤ, List, None}
 use Rattle.cw_text.specs.Syntax.{Source}
 use Rattle.cw_strand.specs.Names.{first_memory, naming_fault}
 use Rattle.cw_strand.specs.Programs.{IsProgramOf}
+use Rattle.cw_strand.specs.Meaning.{strands_of_syntax}
 use Rattle.cw_tree.specs.Shape.{IsTree}
 use Rattle.cw_tree.specs.Journals.{AreJournals}
 use Rattle.cw_record.specs.declared.record.Record.{Record}
@@ -80,3 +81,12 @@ OnlyOutputsBreakOrder = (c : Contents) → IsTree c.tree → naming_fault c.sour
 -- No sheet has two answers.
 abbrev pub AuditsAreOne : Type 0
 AuditsAreOne = (c : Contents) (a b : Audit) → IsAudit c a → IsAudit c b → a ≡ b
+
+-- ## The source
+
+-- One memory that runs the strands of the source's syntax tree, in the order of a sound sheet, does what the sheet says and ends as it
+-- ends.
+abbrev pub SoundOverSource : Type 0
+SoundOverSource =
+    (c : Contents) → naming_fault c.source.items ≡ None → IsAudit c Sound
+    → Replays (strands_of_syntax c.source.items c.words c.limits) (first_values c) c.limits.aborts c.tree c.conflicts (order_of c.tree c.conflicts c.limits.aborts c.end) c.end

@@ -1,8 +1,8 @@
 -- Small sheets that are sound, and the first part that breaks if one thing in them is changed.
-use Rattle.std.specs.Prelude.{ℕ, ℤ, pos, List, [], ◌∷◌, codes, take}
-use Rattle.cw_text.specs.declared.ast.Op.TheVariants.{Add, Div}
+use Rattle.std.specs.Prelude.{ℕ, ℤ, pos, negsuc, List, [], ◌∷◌, codes, take}
+use Rattle.cw_text.specs.declared.ast.Op.TheVariants.{Add, Div, Sub}
 use Rattle.cw_text.specs.Grammar.{word_at}
-use Rattle.cw_text.specs.Syntax.{Block, empty, first, Declaration, cell, func, Statement, assign, atomic, cancel, out, spawn, Term, binary, name, number}
+use Rattle.cw_text.specs.Syntax.{Block, empty, first, Declaration, cell, func, Statement, assign, atomic, cancel, declare, out, spawn, Term, binary, name, number}
 use Rattle.cw_code.specs.declared.FaultKind.{FaultKind}
 use Rattle.cw_code.specs.declared.FaultKind.TheVariants.{Zero, Overflow}
 use Rattle.cw_code.specs.Ranges.{default_limits}
@@ -220,6 +220,126 @@ divider b kind = record {
   end = Fault 10 kind;
 }
 
+-- ## An attempt that is rolled back at its own end
+--
+-- cell c; cell d;
+-- fn main() {
+--     spawn { atomic { c = 1; } }
+--     atomic { spawn { atomic { spawn { d = 1; } c = 2; } } atomic { d = 3; } }
+-- }
+--
+-- No run leaves this tree: the strand of the victim has come to the end of its block. An audit does not ask how a tree came about.
+
+abbrev pub nested_source : List Declaration
+nested_source =
+    cell_with (codes "c") (pos 0)
+    ∷ cell_with (codes "d") (pos 0)
+    ∷ main_with (
+    spawn (block (atomic (block (sets (codes "c") (number (pos 1)) ∷ [])) ∷ []))
+    ∷ atomic (block (
+    spawn (block (atomic (block (spawn (block (sets (codes "d") (number (pos 1)) ∷ [])) ∷ sets (codes "c") (number (pos 2)) ∷ [])) ∷ []))
+    ∷ atomic (block (sets (codes "d") (number (pos 3)) ∷ []))
+    ∷ []))
+    ∷ [])
+    ∷ []
+
+abbrev pub nested_tree : List Node
+nested_tree =
+    plain 0 Strand 0 ∷ plain 0 Fork 1 ∷ plain 1 Strand 0 ∷ committed 2 2 10 ∷ plain 3 (Write 0 (pos 1)) 3 ∷ plain 1 Strand 0
+    ∷ aborted 5 4 31 ∷ plain 6 Fork 5 ∷ plain 7 Strand 0
+    ∷ aborted 8 6 19 ∷ plain 9 Fork 7 ∷ plain 10 Strand 0 ∷ plain 11 (Tried 1) 0 ∷ plain 10 Strand 0 ∷ plain 13 (Tried 0) 0
+    ∷ committed 8 20 26 ∷ plain 15 Fork 21 ∷ plain 16 Strand 0 ∷ plain 17 (Write 1 (pos 1)) 22 ∷ plain 16 Strand 0 ∷ plain 19 (Write 0 (pos 2)) 23
+    ∷ plain 7 Strand 0 ∷ committed 21 8 30 ∷ plain 22 (Write 1 (pos 3)) 9
+    ∷ pending 5 32 ∷ []
+
+abbrev pub of_inner : Conflict
+of_inner = record { cell = 1; last = 9; asker = 12; block = 8; victim = 6; attempt = 1; chain = 9 ∷ [] }
+
+abbrev pub of_outer : Conflict
+of_outer = record { cell = 0; last = 3; asker = 14; block = 2; victim = 4; attempt = 1; chain = 3 ∷ [] }
+
+abbrev pub nested : Contents
+nested = record {
+  source = record { language = 1; items = nested_source };
+  words = [];
+  limits = default_limits;
+  tree = nested_tree;
+  conflicts = of_inner ∷ of_outer ∷ [];
+  end = Moves;
+}
+
+-- ## A history of another runtime, stamped in two ways: each begin, access and end as it came, or all of a block at its commit
+--
+-- cell c; fn main() { spawn { atomic { let x = c; } } atomic { let x = c; } }
+
+abbrev pub readers_source : List Declaration
+readers_source =
+    let reads : Statement = atomic (block (declare (word_at (codes "x") 1) (held_by (codes "c")) ∷ [])) in
+    cell_with (codes "c") (pos 0) ∷ main_with (spawn (block (reads ∷ [])) ∷ reads ∷ []) ∷ []
+
+-- the blocks of the left strand and the right one, each with the stamp of its read
+abbrev pub readers : (left : Node) (left_read : ℕ) (right : Node) (right_read : ℕ) → Contents
+readers left a right b = record {
+  source = record { language = 1; items = readers_source };
+  words = [];
+  limits = default_limits;
+  tree =
+      plain 0 Strand 0 ∷ plain 0 Fork 1 ∷ plain 1 Strand 0 ∷ left ∷ plain 3 (Read 0 (pos 0)) a ∷ plain 1 Strand 0 ∷ right ∷ plain 6 (Read 0 (pos 0)) b ∷ [];
+  conflicts = [];
+  end = Finished (pos 0 ∷ []) [];
+}
+
+-- cell c; fn main() { spawn { atomic { c = c + 1; } } atomic { c = c + 1; } }
+
+abbrev pub adders_source : List Declaration
+adders_source =
+    let adds : Statement = atomic (block (sets (codes "c") (binary Add (held_by (codes "c")) (number (pos 1))) ∷ [])) in
+    cell_with (codes "c") (pos 0) ∷ main_with (spawn (block (adds ∷ [])) ∷ adds ∷ []) ∷ []
+
+-- Both read 0 and write 1, at these stamps.
+abbrev pub adders : (left : Node) (left_read left_write : ℕ) (right : Node) (right_read right_write : ℕ) → Contents
+adders left a b right c d = record {
+  source = record { language = 1; items = adders_source };
+  words = [];
+  limits = default_limits;
+  tree =
+      plain 0 Strand 0 ∷ plain 0 Fork 1 ∷ plain 1 Strand 0 ∷ left ∷ plain 3 (Read 0 (pos 0)) a ∷ plain 3 (Write 0 (pos 1)) b
+      ∷ plain 1 Strand 0 ∷ right ∷ plain 7 (Read 0 (pos 0)) c ∷ plain 7 (Write 0 (pos 1)) d ∷ [];
+  conflicts = [];
+  end = Finished (pos 1 ∷ []) [];
+}
+
+-- ## A block without statements
+--
+-- fn main() { atomic { } }
+
+abbrev pub blank : Node → Contents
+blank b = record {
+  source = record { language = 1; items = main_with (atomic empty ∷ []) ∷ [] };
+  words = [];
+  limits = default_limits;
+  tree = plain 0 Strand 0 ∷ b ∷ [];
+  conflicts = [];
+  end = Finished [] [];
+}
+
+-- ## Words
+--
+-- fn main(a, b) { out a - b; }
+
+abbrev pub subtracts : List ℤ → Contents
+subtracts words = record {
+  source = record {
+    language = 1;
+    items = func (codes "main") 1 (word_at (codes "a") 1 ∷ word_at (codes "b") 1 ∷ []) (block (out (binary Sub (held_by (codes "a")) (held_by (codes "b"))) ∷ [])) ∷ [];
+  };
+  words = words;
+  limits = default_limits;
+  tree = plain 0 Strand 0 ∷ plain 0 (Out (pos 12)) 1 ∷ [];
+  conflicts = [];
+  end = Finished [] (pos 12 ∷ []);
+}
+
 -- ## What is sound
 
 pub record SoundSheets : Type 0 where
@@ -234,6 +354,10 @@ pub record SoundSheets : Type 0 where
   pub both_given_up : IsAudit two_givers Sound
   pub rolled_back : IsAudit (undone (pos 101)) Sound
   pub faulted : IsAudit (divider (pending 5 4) Zero) Sound
+  pub own_end : IsAudit nested Sound
+  -- two readers that overlapped, stamped at their commits
+  pub readers_by_commits : IsAudit (readers (committed 2 2 4) 3 (committed 5 5 7) 6) Sound
+  pub words : IsAudit (subtracts (pos 7 ∷ negsuc 4 ∷ [])) Sound
 
 -- ## What breaks
 
@@ -247,11 +371,20 @@ pub record BrokenSheets : Type 0 where
   pub written_back : IsAudit (giver (pos 6) (pos 6) (pos 5)) (Broken 2)
   -- the left strand's block ends after the right strand wrote the cell
   pub late_end : IsAudit (in_writers (writers_tree 1 (committed 2 2 14) (aborted 6 5 7) (last_write 0 (pos 2)))) (Broken 3)
+  -- the same two readers, stamped as they came: a read keeps other blocks away, too
+  pub readers_by_clock : IsAudit (readers (committed 2 2 6) 4 (committed 5 3 7) 5) (Broken 3)
+  -- a lost update, stamped at the commits and as it came
+  pub lost_by_commits : IsAudit (adders (committed 2 2 5) 3 4 (committed 6 6 9) 7 8) (Broken 2)
+  pub lost_by_clock : IsAudit (adders (committed 2 2 8) 4 6 (committed 6 3 9) 5 7) (Broken 3)
   -- a refused access without a conflict; a conflict without a chain; a budget that was not spent, or not by this strand
   pub no_conflict : IsAudit (writers writers_run [] (Finished (pos 2 ∷ []) [])) (Broken 4)
   pub no_chain : IsAudit (writers writers_run (record refused_write { chain = [] } ∷ []) (Finished (pos 2 ∷ []) [])) (Broken 4)
   pub unspent : IsAudit (stopped_by 2 5) (Broken 4)
   pub other_strand : IsAudit (stopped_by 1 2) (Broken 4)
+  -- the conflict tells of another asker, of the inner block as the victim, or of another attempt
+  pub other_asker : IsAudit (writers writers_run (record refused_write { asker = 7 } ∷ []) (Finished (pos 2 ∷ []) [])) (Broken 4)
+  pub inner_victim : IsAudit (writers writers_run (record refused_write { victim = 5 } ∷ []) (Finished (pos 2 ∷ []) [])) (Broken 4)
+  pub other_attempt : IsAudit (writers writers_run (record refused_write { attempt = 2 } ∷ []) (Finished (pos 2 ∷ []) [])) (Broken 4)
   -- a word too many; a limit out of range; an end at what is no strand
   pub word : IsAudit (record two_writers { words = pos 7 ∷ [] }) (Broken 5)
   pub no_fuel : IsAudit (record two_writers { limits = record default_limits { fuel = 0 } }) (Broken 5)
@@ -262,9 +395,14 @@ pub record BrokenSheets : Type 0 where
   pub other_write : IsAudit (in_writers (writers_tree 1 (committed 2 2 6) (aborted 6 5 7) (last_write 0 (pos 3)))) (Broken 5)
   pub other_list : IsAudit (giver (pos 6) (pos 5) (pos 5)) (Broken 5)
   pub undone_write : IsAudit (undone (pos 9)) (Broken 5)
+  -- words in another order, with which another output is wanted
+  pub other_words : IsAudit (subtracts (negsuc 4 ∷ pos 7 ∷ [])) (Broken 5)
   -- the strand is at another fault; it is at its fault, but the block around it was rolled back
   pub other_fault : IsAudit (divider (pending 5 4) Overflow) (Broken 5)
   pub undone_fault : IsAudit (divider (aborted 5 4 7) Zero) (Broken 6)
+  -- a run that finished with a pending block, and with a strand that has not ended
+  pub open_block : IsAudit (blank (pending 0 1)) (Broken 6)
+  pub not_ended : IsAudit (one_strand (take 4 one_strand_tree) (Finished (pos 1 ∷ []) [])) (Broken 6)
   -- another memory, and one cell too many
   pub other_memory : IsAudit (ended_with (pos 3 ∷ []) []) (Broken 6)
   pub more_memory : IsAudit (ended_with (pos 2 ∷ pos 0 ∷ []) []) (Broken 6)

@@ -4,7 +4,7 @@
 //! journals that a tree tells), and `specs/Laws.antt` (what the parts say together). `specs/Worked.antt` tries them on examples.
 #![tactic(auto)]
 
-ghost use Rattle.cw_audit.specs.Laws.{AuditsAreOne, CoherentAreSound, OnlyOutputsBreakOrder, OrderIsOutputs, PartsAreCoherence, RecordsByParts};
+ghost use Rattle.cw_audit.specs.Laws.{AuditsAreOne, CoherentAreSound, OnlyOutputsBreakOrder, OrderIsOutputs, PartsAreCoherence, RecordsByParts, SoundOverSource};
 ghost use Rattle.cw_audit.specs.Worked.{BrokenSheets, SoundSheets};
 
 mod findings;
@@ -28,6 +28,11 @@ pub fn coherent_are_sound()
 pub fn order_is_outputs()
     ensures holds { OrderIsOutputs }
     ensures breaks { OnlyOutputsBreakOrder }
+{}
+
+/// Law: a sound sheet replays over the syntax tree of its source, so that nobody need read code or the compiler.
+pub fn sound_over_source()
+    ensures { SoundOverSource }
 {}
 
 /// Law: no sheet has two answers.

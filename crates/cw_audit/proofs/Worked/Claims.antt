@@ -6,7 +6,7 @@ use Rattle.std.proofs.lemmas.List.Elements.{All-nil}
 use Rattle.std.proofs.lemmas.Option.{same_Some}
 use Rattle.cw_strand.specs.Names.{naming_fault}
 use Rattle.cw_strand.specs.Pasts.{Past, start}
-use Rattle.cw_strand.specs.Strands.{Strands}
+use Rattle.cw_strand.specs.Strands.{Strands, is_over}
 use Rattle.cw_tree.specs.declared.node.Node.{Node}
 use Rattle.cw_tree.specs.declared.node.Kind.{Kind}
 use Rattle.cw_tree.specs.declared.node.Kind.TheVariants.{Cancel}
@@ -18,7 +18,7 @@ use Rattle.cw_tree.specs.Journals.{FitsCells, fits_cells}
 use Rattle.cw_tree.specs.Cancels.{IsCancel, AreCancels}
 use Rattle.cw_tree.specs.Refusals.{AreRefusals, IsRecorded}
 use Rattle.cw_tree.proofs.Worked.Checks.{all_below, each_below, are_refusals, aborted_test, committed_test}
-use Rattle.cw_record.specs.Coherent.{HasOutputs, StrandEnded, IsJoined, Follows}
+use Rattle.cw_record.specs.Coherent.{HasOutputs, StrandEnded, IsJoined, Follows, alone, joined}
 use Rattle.cw_record.proofs.WorkedEnds.Parts.{AllBelow, AllFrom, Where, Steady, FitsAt, each, found, where_true, state_in}
 use Rattle.cw_sheet.specs.Contents.{Contents}
 use Rattle.cw_audit.specs.declared.findings.Audit.TheVariants.{Sound, Broken}
@@ -132,3 +132,8 @@ module _ {A : Type 0} (s : Strands A) (t : List Node) (before after reached : �
 
   pub all_over : AllBelow OverAt (length t) → (x : ℕ) → x < length t → IsTrue (is_strand t x && is_live t x) → StrandEnded s t before after reached x
   all_over w x h e = where_true (is_strand t x && is_live t x) (StrandEnded s t before after reached x) (each OverAt (length t) w x h) e
+
+  -- what has ended is over
+  pub over_at : (x : ℕ) → StrandEnded s t before after reached x → IsTrue (is_over (s.want (reached x)))
+  over_at x (alone o f) = o
+  over_at x (joined o e f c l r b) = o

@@ -1,9 +1,10 @@
 -- One strand that adds 1 to a cell and outputs it.
-use Rattle.std.proofs.Common.{◌≡◌, ℕ, ℤ, zero, suc, List, [], ◌∷◌, map, take, refl, arith, Some, pos}
+use Rattle.std.proofs.Common.{◌≡◌, ℕ, ℤ, zero, suc, List, [], ◌∷◌, map, take, refl, arith, Some, pos, true, false, sym, ◌∙◌, ap}
 use Rattle.std.specs.Prelude.{slice_get}
+use Rattle.cw_strand.specs.declared.want.Want.TheVariants.{Out as Shows}
 use Rattle.cw_strand.specs.declared.want.Given.TheVariants.{Nothing, Value}
 use Rattle.cw_strand.specs.Pasts.{Past, start, answered, became}
-use Rattle.cw_strand.specs.Strands.{Strands}
+use Rattle.cw_strand.specs.Strands.{Strands, is_over}
 use Rattle.cw_tree.specs.declared.node.Node.{Node}
 use Rattle.cw_tree.specs.declared.node.Kind.TheVariants.{Strand, Read, Write, Out}
 use Rattle.cw_tree.specs.Accesses.{live_accesses, written, cell_value}
@@ -20,9 +21,9 @@ use Rattle.cw_record.proofs.WorkedEnds.Parts.{follows}
 use Rattle.cw_sheet.specs.Worked.{one_strand_run, one_strand_tree}
 use Rattle.cw_audit.specs.declared.findings.Audit.TheVariants.{Sound, Broken}
 use Rattle.cw_audit.specs.Parts.{strands_of_sheet, AreInRange}
-use Rattle.cw_audit.specs.Audits.{accesses, IsAudit}
+use Rattle.cw_audit.specs.Audits.{accesses, IsAudit, ending}
 use Rattle.cw_audit.specs.Worked.{one_strand, writes_other}
-use Rattle.cw_audit.proofs.Worked.Claims.{Before, broken_row, sound_row, order_row, accesses_fit, none_pending, none_refused, no_fork, reads_of_one, past_in, all_over}
+use Rattle.cw_audit.proofs.Worked.Claims.{Before, broken_row, sound_row, order_row, accesses_fit, none_pending, none_refused, no_fork, reads_of_one, past_in, all_over, over_at}
 
 abbrev s : Strands StrandState
 s = strands_of_sheet one_strand_run
@@ -144,3 +145,40 @@ pub other_read : IsAudit (one_strand writes_other (Finished (pos 1 ∷ []) (pos 
 other_read =
     broken_row (one_strand writes_other (Finished (pos 1 ∷ []) (pos 1 ∷ []))) accesses (stamps_of (pos 7), tt, tt, tt, tt, tt, tt, tt)
     (λ w. (let e : pos 1 ≡ pos 7 = (w.reads 0 (pos 0) refl).1.1.0 (pos 1) refl in absurd (cc e)))
+
+-- cut off there, main wants to output
+wants_more : (b a r : ℕ → StrandState) → Follows s (take 4 one_strand_tree) b a r → s.want (r 0) ≡ Shows (pos 1)
+wants_more b a r d =
+    let steps = d.series 0 (omega arith) refl in
+    let at_load : b 1 ≡ s.start = steps.0 ∙ d.start in
+    let at_store : b 2 ≡ became s p1 = steps.1.0 ∙ (d.fits 1 _ refl).1 ∙ ap (λ x. s.answer x (Value (pos 0))) at_load in
+    let at_read : b 3 ≡ became s p2 = steps.1.1.0 ∙ (d.fits 2 _ refl).1 ∙ ap (λ x. s.answer x Nothing) at_store in
+    let at_end : r 0 ≡ became s p3 = sym steps.1.1.1 ∙ (d.fits 3 _ refl).1 ∙ ap (λ x. s.answer x (Value (pos 1))) at_read in
+    ap s.want at_end
+
+pub not_ended : IsAudit (one_strand (take 4 one_strand_tree) (Finished (pos 1 ∷ []) [])) (Broken 6)
+not_ended =
+    let t = take 4 one_strand_tree in
+    broken_row (one_strand t (Finished (pos 1 ∷ []) [])) ending (
+      are_stamps t refl refl refl refl refl refl refl refl refl,
+      record { cells = accesses_fit t 1 refl; reads = reads_of_one t (pos 0) (refl, (refl, (refl, tt))) },
+      ended_one t (ended_between t 1 2 refl, (ended_between t 2 3 refl, tt)),
+      record { refused = none_refused t refl refl refl; spent = λ is. tt },
+      record {
+        words = (_, refl, refl);
+        limits = in_range;
+        named = refl;
+        pending_last = pending_last t refl refl;
+        rolls_back = rolls_back t [] refl refl;
+        done = (before, after, reached p3, did_some, tt);
+      },
+      tt,
+      tt,
+      tt,
+    )
+    (λ w. (
+    let (b, a, r, d, stands) = w.done in
+    let over = over_at s t b a r 0 (stands.1 0 (omega arith) refl) in
+    let e : false ≡ true = sym (ap is_over (wants_more b a r d)) ∙ over in
+    absurd (cc e)
+    ))

@@ -1,6 +1,10 @@
 -- Two strands that write one cell, the second after it was refused.
-use Rattle.std.proofs.Common.{◌≡◌, ℕ, ℤ, zero, suc, ◌<◌, ◌≤◌, List, [], ◌∷◌, map, refl, ap, sym, ◌∙◌, arith, Some, pos}
-use Rattle.std.specs.Prelude.{slice_get}
+use Rattle.std.proofs.Common.{◌≡◌, ℕ, ℤ, zero, suc, ◌<◌, ◌≤◌, List, [], ◌∷◌, map, refl, ap, sym, ◌∙◌, arith, Some, pos, Bool, subst}
+use Rattle.cw_tree.proofs.Walks.There.{node_there}
+use Rattle.cw_tree.specs.Attempts.{attempt_of}
+use Rattle.cw_tree.specs.Nodes.{stamp_of, touches, touches_kind}
+use Rattle.std.proofs.lemmas.Bool.{and_from, eq-eqb, eqb-true}
+use Rattle.std.specs.Prelude.{slice_get, ◌&&◌, ◌==◌, IsTrue, option_map}
 use Rattle.std.proofs.lemmas.List.Elements.{All-head}
 use Rattle.std.proofs.lemmas.Option.{same_Some}
 use Rattle.cw_code.specs.declared.instruction.Func.{Func}
@@ -14,12 +18,12 @@ use Rattle.cw_tree.specs.declared.node.Node.{Node}
 use Rattle.cw_tree.specs.Accesses.{live_accesses, written, cell_value}
 use Rattle.cw_tree.specs.Cancels.{AreCancels}
 use Rattle.cw_tree.specs.Journals.{JournalsEnded}
-use Rattle.cw_tree.specs.Refusals.{AreRefusals, IsRecorded}
+use Rattle.cw_tree.specs.Refusals.{AreRefusals, IsRecorded, IsRefusal, outermost_apart}
 use Rattle.cw_tree.specs.Shape.{IsTree, AreStamps}
 use Rattle.cw_tree.specs.Worked.{pending, committed, aborted}
 use Rattle.cw_tree.specs.WorkedRun.{refused_write}
 use Rattle.cw_tree.proofs.Cancels.{no_cancels}
-use Rattle.cw_tree.proofs.Worked.Checks.{is_tree, are_stamps, pending_last, are_refusals, rolls_back}
+use Rattle.cw_tree.proofs.Worked.Checks.{is_tree, are_stamps, pending_last, are_refusals, rolls_back, each_below, implies, implied}
 use Rattle.cw_tree.proofs.Worked.KeptParts.{ended_between, recorded}
 use Rattle.cw_tree.proofs.Worked.KeptRuns.{ended_one}
 use Rattle.cw_job.specs.Room.Strands.{StrandState}
@@ -219,6 +223,50 @@ no_chain =
     let c : Conflict = record refused_write { chain = [] } in
     broken_row (writers writers_run (c ∷ []) (Finished (pos 2 ∷ []) [])) refusals (stamps_of 0 (pos 2), accesses_of (pos 2), blocks_of (pos 2), tt, tt, tt, tt, tt)
     (λ w. (let (u, b, r) = All-head (IsRecorded writers_run) c [] w.refused.recorded in absurd (omega (arith, r.chain_len.0))))
+
+-- a last access with stamp 3 is node 4
+is_last : (u : ℕ) → IsTrue (touches writers_run 0 u) → stamp_of writers_run u ≡ 3 → u ≡ 4
+is_last u touched stamp =
+    let there : u < 12 = node_there (λ x. touches_kind 0 x.kind) writers_run u touched in
+    let test : ℕ → Bool = λ n. implies (touches writers_run 0 n && (stamp_of writers_run n == 3)) (n == 4) in
+    eqb-true u 4 (implied _ _ (each_below test 12 refl u there) (and_from _ _ touched (eq-eqb _ _ stamp)))
+
+-- the node of its last access
+last_of : (c : Conflict) (u b : ℕ) → c.cell ≡ 0 → c.last ≡ 3 → IsRefusal writers_run c u b → u ≡ 4
+last_of c u b cell last r =
+    let T : ℕ → Type 0 = λ k. IsTrue (touches writers_run k u) in
+    is_last u (subst T cell r.last.0) (r.last.1 ∙ last)
+
+-- of this conflict, which does not tell what it should
+lies : (c : Conflict) → (AreRefusals writers_run (c ∷ []) → ⊥) → IsAudit (writers writers_run (c ∷ []) (Finished (pos 2 ∷ []) [])) (Broken 4)
+lies c fails =
+    broken_row (writers writers_run (c ∷ []) (Finished (pos 2 ∷ []) [])) refusals (stamps_of 0 (pos 2), accesses_of (pos 2), blocks_of (pos 2), tt, tt, tt, tt, tt)
+    (λ w. fails w.refused)
+
+pub other_asker : IsAudit (writers writers_run (record refused_write { asker = 7 } ∷ []) (Finished (pos 2 ∷ []) [])) (Broken 4)
+other_asker = lies (record refused_write { asker = 7 }) (λ w. (let e : 7 ∷ [] ≡ 8 ∷ [] = w.each in absurd (cc e)))
+
+pub inner_victim : IsAudit (writers writers_run (record refused_write { victim = 5 } ∷ []) (Finished (pos 2 ∷ []) [])) (Broken 4)
+inner_victim =
+    let c : Conflict = record refused_write { victim = 5 } in
+    lies c
+    (λ w. (
+    let (u, b, r) = All-head (IsRecorded writers_run) c [] w.recorded in
+    let P : ℕ → Type 0 = λ n. Some 5 ≡ option_map (stamp_of writers_run) (outermost_apart writers_run n 8) in
+    let e : Some 5 ≡ Some 4 = subst P (last_of c u b refl refl r) r.victim in
+    absurd (cc e)
+    ))
+
+pub other_attempt : IsAudit (writers writers_run (record refused_write { attempt = 2 } ∷ []) (Finished (pos 2 ∷ []) [])) (Broken 4)
+other_attempt =
+    let c : Conflict = record refused_write { attempt = 2 } in
+    lies c
+    (λ w. (
+    let (u, b, r) = All-head (IsRecorded writers_run) c [] w.recorded in
+    let P : ℕ → Type 0 = λ n. 2 ≡ attempt_of writers_run 8 (outermost_apart writers_run n 8) in
+    let e : 2 ≡ 1 = subst P (last_of c u b refl refl r) r.attempt in
+    absurd (omega (arith, e))
+    ))
 
 pub word : IsAudit (record two_writers { words = pos 7 ∷ [] }) (Broken 5)
 word =
