@@ -1,11 +1,15 @@
 -- Rows of an audit from claims on parts, and claims on small trees by tests that compute.
-use Rattle.std.proofs.Common.{◌≡◌, ℕ, ℤ, zero, suc, ◌<◌, List, [], ◌∷◌, length, refl, ap, sym, ◌∙◌, subst, true, false, nat_lt, Some, unwrap_or}
+use Rattle.std.proofs.Common.{arith, ◌≡◌, ℕ, ℤ, zero, suc, ◌<◌, List, [], ◌∷◌, length, refl, ap, sym, ◌∙◌, subst, true, false, nat_lt, Some, unwrap_or}
+use Rattle.cw_record.specs.Order.{ending_strand}
+use Rattle.cw_audit.specs.Parts.{strands_of_sheet, TakesItsWords, IsWithin, AreInRange, CanHaveDone, unfinished, StrandsHold}
+use Rattle.cw_code.specs.Ranges.{aborts_option, default_limits}
+use Rattle.cw_strand.specs.declared.want.Given.TheVariants.{Nothing}
 use Rattle.std.specs.Prelude.{◌&&◌, ◌||◌, not, IsTrue, None, filter}
 use Rattle.std.proofs.lemmas.Bool.{lt-ltb, not-true, not_from_false}
 use Rattle.std.proofs.lemmas.List.Elements.{All-nil}
 use Rattle.std.proofs.lemmas.Option.{same_Some}
 use Rattle.cw_strand.specs.Names.{naming_fault}
-use Rattle.cw_strand.specs.Pasts.{Past, start}
+use Rattle.cw_strand.specs.Pasts.{Past, start, answered, left_of, right_of}
 use Rattle.cw_strand.specs.Strands.{Strands, is_over}
 use Rattle.cw_tree.specs.declared.node.Node.{Node}
 use Rattle.cw_tree.specs.declared.node.Kind.{Kind}
@@ -17,7 +21,7 @@ use Rattle.cw_tree.specs.Accesses.{is_live, live_accesses, written, read}
 use Rattle.cw_tree.specs.Journals.{FitsCells, fits_cells}
 use Rattle.cw_tree.specs.Cancels.{IsCancel, AreCancels}
 use Rattle.cw_tree.specs.Refusals.{AreRefusals, IsRecorded}
-use Rattle.cw_tree.proofs.Worked.Checks.{all_below, each_below, are_refusals, aborted_test, committed_test}
+use Rattle.cw_tree.proofs.Worked.Checks.{all_below, each_below, are_refusals, aborted_test, committed_test, all_pairs, last_test, around_test, tried_test, beneath_victim_test, pending_last, rolls_back}
 use Rattle.cw_record.specs.Coherent.{HasOutputs, StrandEnded, IsJoined, Follows, alone, joined}
 use Rattle.cw_record.proofs.WorkedEnds.Parts.{AllBelow, AllFrom, Where, Steady, FitsAt, each, found, where_true, state_in}
 use Rattle.cw_sheet.specs.Contents.{Contents}
@@ -113,6 +117,39 @@ module _ (t : List Node) where
 -- what had happened to a strand at a node
 abbrev pub past_in : List Past → ℕ → Past
 past_in = state_in start
+
+-- the same strand after n answers that give it nothing
+abbrev pub goes_on : ℕ → Past → Past
+goes_on zero p = p
+goes_on (suc n) p = answered (goes_on n p) Nothing
+
+-- the strands of main's first fork after n such answers
+abbrev pub left : ℕ → Past
+left n = goes_on n (left_of start)
+
+abbrev pub right : ℕ → Past
+right n = goes_on n (right_of start)
+
+-- part 5, of which most computes
+pub strands_by : (c : Contents) → TakesItsWords c → AreInRange c.limits → is_strand c.tree (ending_strand c.end) ≡ true
+    → all_pairs (last_test c.tree) (length c.tree) ≡ true → all_pairs (around_test c.tree) (length c.tree) ≡ true
+    → all_below (tried_test c.tree c.conflicts) (length c.tree) ≡ true → all_below (beneath_victim_test c.tree c.conflicts) (length c.tree) ≡ true
+    → CanHaveDone (strands_of_sheet c) c.tree (unfinished c.end) → StrandsHold c
+strands_by c words limits named last around tried aborted done = record {
+  words = words;
+  limits = limits;
+  named = named;
+  pending_last = pending_last c.tree last around;
+  rolls_back = rolls_back c.tree c.conflicts tried aborted;
+  done = done;
+}
+
+-- the limits of a command that gives no other than the budget
+pub in_range : (budget : ℕ) → IsWithin aborts_option budget → AreInRange (record default_limits { aborts = budget })
+in_range budget within = record { fuel = (omega arith, omega arith); size = (omega arith, omega arith); aborts = within; strands = (omega arith, omega arith); moves = (omega arith, omega arith) }
+
+pub by_default : AreInRange default_limits
+by_default = in_range 100000 (omega arith, omega arith)
 
 module _ {A : Type 0} (s : Strands A) (t : List Node) (before after reached : ℕ → A) where
   abbrev pub JoinedAt : ℕ → Type 0

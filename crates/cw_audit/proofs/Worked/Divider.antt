@@ -9,7 +9,7 @@ use Rattle.cw_strand.specs.Strands.{Strands}
 use Rattle.cw_tree.specs.declared.node.Node.{Node}
 use Rattle.cw_tree.specs.Worked.{pending, aborted}
 use Rattle.cw_tree.proofs.Cancels.{no_cancels}
-use Rattle.cw_tree.proofs.Worked.Checks.{is_tree, are_stamps, pending_last, are_refusals, rolls_back}
+use Rattle.cw_tree.proofs.Worked.Checks.{is_tree, are_stamps, are_refusals}
 use Rattle.cw_tree.proofs.Worked.KeptParts.{recorded}
 use Rattle.cw_job.specs.Room.Strands.{StrandState}
 use Rattle.cw_record.specs.Coherent.{Follows}
@@ -19,8 +19,7 @@ use Rattle.cw_audit.specs.declared.findings.Audit.TheVariants.{Sound, Broken}
 use Rattle.cw_audit.specs.Parts.{strands_of_sheet}
 use Rattle.cw_audit.specs.Audits.{strands, ending, IsAudit}
 use Rattle.cw_audit.specs.Worked.{divider}
-use Rattle.cw_audit.proofs.Worked.Claims.{Before, broken_row, sound_row, accesses_fit, reads_of_two, past_in}
-use Rattle.cw_audit.proofs.Worked.Writers.{in_range}
+use Rattle.cw_audit.proofs.Worked.Claims.{Before, broken_row, sound_row, accesses_fit, reads_of_two, past_in, strands_by, by_default, left, right}
 
 abbrev s : Strands StrandState
 s = strands_of_sheet (divider (pending 5 4) Zero)
@@ -32,39 +31,24 @@ t = divided (pending 5 4) (pos 0)
 abbrev u : List Node
 u = divided (aborted 5 4 7) (pos 0)
 
-abbrev l0 : Past
-l0 = left_of start
-
-abbrev l1 : Past
-l1 = answered l0 Nothing
-
-abbrev l2 : Past
-l2 = answered l1 Nothing
-
-abbrev r0 : Past
-r0 = right_of start
-
-abbrev r1 : Past
-r1 = answered r0 Nothing
-
 abbrev x0 : Past
-x0 = left_of r1
+x0 = left_of (right 1)
 
 abbrev y0 : Past
-y0 = right_of r1
+y0 = right_of (right 1)
 
 abbrev y1 : Past
 y1 = answered y0 (Value (pos 0))
 
 -- nothing is said of a state behind a fork whose strands run
 abbrev before : ℕ → StrandState
-before n = became s (past_in (start ∷ start ∷ l0 ∷ l0 ∷ l1 ∷ r0 ∷ r0 ∷ r1 ∷ x0 ∷ x0 ∷ y0 ∷ y0 ∷ []) n)
+before n = became s (past_in (start ∷ start ∷ left 0 ∷ left 0 ∷ left 1 ∷ right 0 ∷ right 0 ∷ right 1 ∷ x0 ∷ x0 ∷ y0 ∷ y0 ∷ []) n)
 
 abbrev after : ℕ → StrandState
-after n = became s (past_in (start ∷ start ∷ start ∷ l0 ∷ l2 ∷ start ∷ r0 ∷ start ∷ start ∷ x0 ∷ start ∷ y1 ∷ []) n)
+after n = became s (past_in (start ∷ start ∷ start ∷ left 0 ∷ left 2 ∷ start ∷ right 0 ∷ start ∷ start ∷ x0 ∷ start ∷ y1 ∷ []) n)
 
 abbrev reached : ℕ → StrandState
-reached n = became s (past_in (start ∷ start ∷ l0 ∷ l2 ∷ start ∷ r0 ∷ start ∷ start ∷ x0 ∷ start ∷ y1 ∷ []) n)
+reached n = became s (past_in (start ∷ start ∷ left 0 ∷ left 2 ∷ start ∷ right 0 ∷ start ∷ start ∷ x0 ∷ start ∷ y1 ∷ []) n)
 
 did : Follows s t before after reached
 did =
@@ -104,14 +88,7 @@ faulted =
       p2,
       p3,
       p4,
-      record {
-        words = (_, refl, refl);
-        limits = in_range;
-        named = refl;
-        pending_last = pending_last t refl refl;
-        rolls_back = rolls_back t (refused_in_block ∷ []) refl refl;
-        done = (before, after, reached, did, (refl, no_fork_last s t before after reached 10 11 refl refl));
-      },
+      strands_by (divider (pending 5 4) Zero) (_, refl, refl) by_default refl refl refl refl refl (before, after, reached, did, (refl, no_fork_last s t before after reached 10 11 refl refl)),
       record { faulted = refl; memory = tt; done = (before, after, reached, did, (refl, no_fork_last s t before after reached 10 11 refl refl)) },
       no_cancels t (pos 0 ∷ pos 0 ∷ []) refl,
       tt,
@@ -123,9 +100,9 @@ at_zero : (b a r : ℕ → StrandState) → Follows s t b a r → s.want (r 10) 
 at_zero b a r d =
     let go : StrandState → StrandState = λ x. s.answer x Nothing in
     let at_fork : b 1 ≡ s.start = (d.series 0 (omega arith) refl).0 ∙ d.start in
-    let at_right : b 5 ≡ became s r0 = (d.fits 1 _ refl).1.1 ∙ ap s.right at_fork in
-    let at_block : b 6 ≡ became s r0 = (d.series 5 (omega arith) refl).0 ∙ at_right in
-    let at_inner : b 7 ≡ became s r1 = (d.series 6 (omega arith) refl).0 ∙ ap go at_block in
+    let at_right : b 5 ≡ became s (right 0) = (d.fits 1 _ refl).1.1 ∙ ap s.right at_fork in
+    let at_block : b 6 ≡ became s (right 0) = (d.series 5 (omega arith) refl).0 ∙ at_right in
+    let at_inner : b 7 ≡ became s (right 1) = (d.series 6 (omega arith) refl).0 ∙ ap go at_block in
     let at_start : b 10 ≡ became s y0 = (d.fits 7 _ refl).1.1 ∙ ap s.right at_inner in
     let at_read : b 11 ≡ became s y0 = (d.series 10 (omega arith) refl).0 ∙ at_start in
     let at_end : r 10 ≡ became s y1 = sym (d.series 10 (omega arith) refl).1 ∙ (d.fits 11 _ refl).1 ∙ ap (λ x. s.answer x (Value (pos 0))) at_read in
@@ -146,14 +123,7 @@ undone_fault =
         refused = are_refusals u (refused_in_block ∷ []) refl (recorded u refused_in_block 4 3 (refl, refl, refl, refl, refl, refl, refl, refl, refl) (refl, refl, refl)) refl refl;
         spent = λ is. tt;
       },
-      record {
-        words = (_, refl, refl);
-        limits = in_range;
-        named = refl;
-        pending_last = pending_last u refl refl;
-        rolls_back = rolls_back u (refused_in_block ∷ []) refl refl;
-        done = (before, after, reached, did_undone, (refl, no_fork_last s u before after reached 10 11 refl refl));
-      },
+      strands_by (divider (aborted 5 4 7) Zero) (_, refl, refl) by_default refl refl refl refl refl (before, after, reached, did_undone, (refl, no_fork_last s u before after reached 10 11 refl refl)),
       tt,
       tt,
       tt,

@@ -10,7 +10,7 @@ use Rattle.cw_tree.specs.Accesses.{live_accesses, written, cell_value}
 use Rattle.cw_tree.specs.Journals.{JournalsEnded}
 use Rattle.cw_tree.specs.Shape.{AreStamps}
 use Rattle.cw_tree.specs.WorkedRun.{had}
-use Rattle.cw_tree.proofs.Worked.Checks.{is_tree, are_stamps, pending_last, rolls_back}
+use Rattle.cw_tree.proofs.Worked.Checks.{is_tree, are_stamps}
 use Rattle.cw_tree.proofs.Worked.KeptParts.{ended_between}
 use Rattle.cw_tree.proofs.Worked.KeptRuns.{ended_one}
 use Rattle.cw_job.specs.Room.Strands.{StrandState}
@@ -21,8 +21,7 @@ use Rattle.cw_audit.specs.declared.findings.Audit.TheVariants.{Sound, Broken}
 use Rattle.cw_audit.specs.Parts.{strands_of_sheet, AccessesHold, RefusalsHold, StrandsHold, EndHolds}
 use Rattle.cw_audit.specs.Audits.{accesses, strands, cancels, IsAudit}
 use Rattle.cw_audit.specs.Worked.{giver, giver_tree}
-use Rattle.cw_audit.proofs.Worked.Claims.{broken_row, sound_row, accesses_fit, none_pending, none_refused, no_fork, reads_of_one, are_cancels, past_in, all_over}
-use Rattle.cw_audit.proofs.Worked.Writers.{in_range}
+use Rattle.cw_audit.proofs.Worked.Claims.{broken_row, sound_row, accesses_fit, none_pending, none_refused, no_fork, reads_of_one, are_cancels, past_in, all_over, strands_by, by_default}
 
 abbrev s : Strands StrandState
 s = strands_of_sheet (giver (pos 5) (pos 5) (pos 5))
@@ -99,14 +98,7 @@ value x zero v e = refl
 value x (suc c) v e = absurd (cc e)
 
 strands_hold : (v : ℤ) → StrandsHold (giver v v v)
-strands_hold v = record {
-  words = (_, refl, refl);
-  limits = in_range;
-  named = refl;
-  pending_last = pending_last (giver_tree v v v) refl refl;
-  rolls_back = rolls_back (giver_tree v v v) [] refl refl;
-  done = (before v, after v, reached v, did v, tt);
-}
+strands_hold v = strands_by (giver v v v) (_, refl, refl) by_default refl refl refl refl refl (before v, after v, reached v, did v, tt)
 
 end_holds : (v : ℤ) (outputs : List ℤ) → EndHolds s (giver_tree v v v) (pos 5 ∷ []) (Finished (v ∷ []) outputs)
 end_holds v outputs = record {

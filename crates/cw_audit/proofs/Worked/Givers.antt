@@ -7,7 +7,7 @@ use Rattle.cw_strand.specs.Strands.{Strands}
 use Rattle.cw_tree.specs.declared.node.Node.{Node}
 use Rattle.cw_tree.specs.Accesses.{live_accesses, written, cell_value}
 use Rattle.cw_tree.specs.WorkedRun.{had}
-use Rattle.cw_tree.proofs.Worked.Checks.{is_tree, are_stamps, pending_last, rolls_back}
+use Rattle.cw_tree.proofs.Worked.Checks.{is_tree, are_stamps}
 use Rattle.cw_tree.proofs.Worked.KeptParts.{ended_between}
 use Rattle.cw_job.specs.Room.Strands.{StrandState}
 use Rattle.cw_record.specs.declared.record_end.RecordEnd.TheVariants.{Finished}
@@ -17,8 +17,7 @@ use Rattle.cw_audit.specs.declared.findings.Audit.TheVariants.{Sound}
 use Rattle.cw_audit.specs.Parts.{strands_of_sheet}
 use Rattle.cw_audit.specs.Audits.{IsAudit}
 use Rattle.cw_audit.specs.Worked.{givers_tree, two_givers}
-use Rattle.cw_audit.proofs.Worked.Claims.{sound_row, accesses_fit, none_pending, none_refused, no_fork, reads_of_two, are_cancels, past_in, follows_joined, all_over}
-use Rattle.cw_audit.proofs.Worked.Writers.{in_range}
+use Rattle.cw_audit.proofs.Worked.Claims.{sound_row, accesses_fit, none_pending, none_refused, no_fork, reads_of_two, are_cancels, past_in, follows_joined, all_over, strands_by, by_default}
 
 abbrev s : Strands StrandState
 s = strands_of_sheet two_givers
@@ -103,14 +102,7 @@ both_given_up =
       record { cells = accesses_fit t 2 refl; reads = reads_of_two t (pos 1) (pos 2) (refl, (refl, tt)) (refl, (refl, tt)) },
       ended_two t (ended_between t 4 9 refl, tt) (ended_between t 7 10 refl, tt),
       record { refused = none_refused t refl refl refl; spent = λ is. tt },
-      record {
-        words = (_, refl, refl);
-        limits = in_range;
-        named = refl;
-        pending_last = pending_last t refl refl;
-        rolls_back = rolls_back t [] refl refl;
-        done = (before, after, reached, did, tt);
-      },
+      strands_by two_givers (_, refl, refl) by_default refl refl refl refl refl (before, after, reached, did, tt),
       record { faulted = tt; memory = record { len = refl; each = value }; done = (before, after, reached, did, stands (pos 1 ∷ pos 2 ∷ []) []) },
       are_cancels t (pos 1 ∷ pos 2 ∷ []) (tt, (tt, (tt, (tt, (tt, (tt, (tt, (tt, (record { block = refl; list = refl }, (tt, (tt, tt))))))))))),
       tt,

@@ -1,13 +1,12 @@
 -- An attempt that is rolled back at its own end.
 use Rattle.std.proofs.Common.{ℕ, List, [], ◌∷◌, refl, arith, pos}
 use Rattle.std.proofs.lemmas.List.Elements.{All-head, All-cons}
-use Rattle.cw_strand.specs.declared.want.Given.TheVariants.{Nothing}
-use Rattle.cw_strand.specs.Pasts.{Past, start, answered, left_of, right_of, joined_of, became}
+use Rattle.cw_strand.specs.Pasts.{Past, start, left_of, right_of, joined_of, became}
 use Rattle.cw_strand.specs.Strands.{Strands}
 use Rattle.cw_tree.specs.declared.node.Node.{Node}
 use Rattle.cw_tree.specs.Refusals.{IsRecorded}
 use Rattle.cw_tree.proofs.Cancels.{no_cancels}
-use Rattle.cw_tree.proofs.Worked.Checks.{is_tree, are_stamps, pending_last, are_refusals, rolls_back}
+use Rattle.cw_tree.proofs.Worked.Checks.{is_tree, are_stamps, are_refusals}
 use Rattle.cw_tree.proofs.Worked.KeptParts.{recorded}
 use Rattle.cw_job.specs.Room.Strands.{StrandState}
 use Rattle.cw_record.specs.Coherent.{alone, IsJoined, Follows}
@@ -16,8 +15,7 @@ use Rattle.cw_audit.specs.declared.findings.Audit.TheVariants.{Sound}
 use Rattle.cw_audit.specs.Parts.{strands_of_sheet}
 use Rattle.cw_audit.specs.Audits.{IsAudit}
 use Rattle.cw_audit.specs.Worked.{nested, nested_tree, of_inner, of_outer}
-use Rattle.cw_audit.proofs.Worked.Claims.{sound_row, accesses_fit, no_fork, reads_of_two, past_in, follows_joined}
-use Rattle.cw_audit.proofs.Worked.Writers.{in_range}
+use Rattle.cw_audit.proofs.Worked.Claims.{sound_row, accesses_fit, no_fork, reads_of_two, past_in, follows_joined, strands_by, by_default, left, right, goes_on}
 
 abbrev s : Strands StrandState
 s = strands_of_sheet nested
@@ -25,32 +23,12 @@ s = strands_of_sheet nested
 abbrev t : List Node
 t = nested_tree
 
--- a strand after one, two and three answers
-abbrev one : Past → Past
-one p = answered p Nothing
-
-abbrev two : Past → Past
-two p = answered (one p) Nothing
-
-abbrev three : Past → Past
-three p = answered (two p) Nothing
-
-abbrev l0 : Past
-l0 = left_of start
-
--- the right strand at its block, and at the fork in it
-abbrev r0 : Past
-r0 = right_of start
-
-abbrev r1 : Past
-r1 = one r0
-
 -- the left strand of that fork at its block, at the fork in that, and the two strands there
 abbrev x0 : Past
-x0 = left_of r1
+x0 = left_of (right 1)
 
 abbrev x1 : Past
-x1 = one x0
+x1 = goes_on 1 x0
 
 abbrev p0 : Past
 p0 = left_of x1
@@ -60,30 +38,30 @@ q0 = right_of x1
 
 -- behind that fork, and behind the block
 abbrev x2 : Past
-x2 = joined_of (one q0) (one p0)
+x2 = joined_of (goes_on 1 q0) (goes_on 1 p0)
 
 abbrev x3 : Past
-x3 = one x2
+x3 = goes_on 1 x2
 
 abbrev y0 : Past
-y0 = right_of r1
+y0 = right_of (right 1)
 
 -- at the end of the right strand's block
 abbrev r2 : Past
-r2 = joined_of (three y0) x3
+r2 = joined_of (goes_on 3 y0) x3
 
 abbrev before : ℕ → StrandState
-before n = became s (past_in (start ∷ start ∷ l0 ∷ l0 ∷ one l0 ∷ r0 ∷ r0 ∷ r1 ∷ x0 ∷ x0 ∷ x1 ∷ p0 ∷ p0 ∷ q0 ∷ q0 ∷ x0 ∷ x1 ∷ p0 ∷ p0 ∷ q0 ∷ q0 ∷ y0 ∷ y0 ∷ one y0 ∷ r0 ∷ []) n)
+before n = became s (past_in (start ∷ start ∷ left 0 ∷ left 0 ∷ left 1 ∷ right 0 ∷ right 0 ∷ right 1 ∷ x0 ∷ x0 ∷ x1 ∷ p0 ∷ p0 ∷ q0 ∷ q0 ∷ x0 ∷ x1 ∷ p0 ∷ p0 ∷ q0 ∷ q0 ∷ y0 ∷ y0 ∷ goes_on 1 y0 ∷ right 0 ∷ []) n)
 
 abbrev after : ℕ → StrandState
 after n =
     became s
-    (past_in (start ∷ start ∷ start ∷ three l0 ∷ two l0 ∷ start ∷ r0 ∷ r2 ∷ start ∷ x0 ∷ start ∷ start ∷ p0 ∷ start ∷ q0 ∷ x3 ∷ x2 ∷ start ∷ one p0 ∷ start ∷ one q0 ∷ start ∷ three y0 ∷ two y0 ∷ r0 ∷ []) n)
+    (past_in (start ∷ start ∷ start ∷ left 3 ∷ left 2 ∷ start ∷ right 0 ∷ r2 ∷ start ∷ x0 ∷ start ∷ start ∷ p0 ∷ start ∷ q0 ∷ x3 ∷ x2 ∷ start ∷ goes_on 1 p0 ∷ start ∷ goes_on 1 q0 ∷ start ∷ goes_on 3 y0 ∷ goes_on 2 y0 ∷ right 0 ∷ []) n)
 
 abbrev reached : ℕ → StrandState
 reached n =
     became s
-    (past_in (start ∷ start ∷ three l0 ∷ two l0 ∷ start ∷ r0 ∷ r2 ∷ start ∷ x3 ∷ start ∷ start ∷ p0 ∷ start ∷ q0 ∷ start ∷ x2 ∷ start ∷ one p0 ∷ start ∷ one q0 ∷ start ∷ three y0 ∷ two y0 ∷ start ∷ r1 ∷ []) n)
+    (past_in (start ∷ start ∷ left 3 ∷ left 2 ∷ start ∷ right 0 ∷ r2 ∷ start ∷ x3 ∷ start ∷ start ∷ p0 ∷ start ∷ q0 ∷ start ∷ x2 ∷ start ∷ goes_on 1 p0 ∷ start ∷ goes_on 1 q0 ∷ start ∷ goes_on 3 y0 ∷ goes_on 2 y0 ∷ start ∷ right 1 ∷ []) n)
 
 -- the fork of the second attempt of the inner block
 joined_again : IsJoined s t before after reached 16
@@ -116,14 +94,7 @@ own_end =
             (All-cons (IsRecorded t) of_inner (of_outer ∷ []) inner (recorded t of_outer 4 3 (refl, refl, refl, refl, refl, refl, refl, refl, refl) (refl, refl, refl))) refl refl;
         spent = λ is. tt;
       },
-      record {
-        words = (_, refl, refl);
-        limits = in_range;
-        named = refl;
-        pending_last = pending_last t refl refl;
-        rolls_back = rolls_back t (of_inner ∷ of_outer ∷ []) refl refl;
-        done = (before, after, reached, did, tt);
-      },
+      strands_by nested (_, refl, refl) by_default refl refl refl refl refl (before, after, reached, did, tt),
       record { faulted = tt; memory = tt; done = (before, after, reached, did, tt) },
       no_cancels t (pos 0 ∷ pos 0 ∷ []) refl,
       tt,

@@ -11,7 +11,7 @@ use Rattle.cw_tree.specs.Accesses.{live_accesses, written, cell_value}
 use Rattle.cw_tree.specs.Shape.{AreStamps}
 use Rattle.cw_tree.specs.Worked.{plain}
 use Rattle.cw_tree.proofs.Cancels.{no_cancels}
-use Rattle.cw_tree.proofs.Worked.Checks.{is_tree, are_stamps, pending_last, rolls_back}
+use Rattle.cw_tree.proofs.Worked.Checks.{is_tree, are_stamps}
 use Rattle.cw_tree.proofs.Worked.KeptParts.{ended_between}
 use Rattle.cw_tree.proofs.Worked.KeptRuns.{ended_one}
 use Rattle.cw_job.specs.Room.Strands.{StrandState}
@@ -20,10 +20,10 @@ use Rattle.cw_record.specs.Coherent.{alone, Follows, EndStands}
 use Rattle.cw_record.proofs.WorkedEnds.Parts.{follows}
 use Rattle.cw_sheet.specs.Worked.{one_strand_run, one_strand_tree}
 use Rattle.cw_audit.specs.declared.findings.Audit.TheVariants.{Sound, Broken}
-use Rattle.cw_audit.specs.Parts.{strands_of_sheet, AreInRange}
+use Rattle.cw_audit.specs.Parts.{strands_of_sheet}
 use Rattle.cw_audit.specs.Audits.{accesses, IsAudit, ending}
 use Rattle.cw_audit.specs.Worked.{one_strand, writes_other}
-use Rattle.cw_audit.proofs.Worked.Claims.{Before, broken_row, sound_row, order_row, accesses_fit, none_pending, none_refused, no_fork, reads_of_one, past_in, all_over, over_at}
+use Rattle.cw_audit.proofs.Worked.Claims.{Before, broken_row, sound_row, order_row, accesses_fit, none_pending, none_refused, no_fork, reads_of_one, past_in, all_over, over_at, strands_by, by_default}
 
 abbrev s : Strands StrandState
 s = strands_of_sheet one_strand_run
@@ -70,15 +70,6 @@ stands memory outputs = (
   all_over s one_strand_tree before after (reached p4) (((((tt, alone {x = 0} refl (λ f e. no_fork one_strand_tree 4 f refl e)), tt), tt), tt), tt),
 )
 
-in_range : AreInRange one_strand_run.limits
-in_range = record {
-  fuel = (omega arith, omega arith);
-  size = (omega arith, omega arith);
-  aborts = (omega arith, omega arith);
-  strands = (omega arith, omega arith);
-  moves = (omega arith, omega arith);
-}
-
 value : (c : ℕ) (v : ℤ) → slice_get (pos 0 ∷ []) c ≡ Some v → slice_get (pos 1 ∷ []) c ≡ Some (cell_value v (map (written one_strand_tree) (live_accesses one_strand_tree c)))
 value zero v e = refl
 value (suc c) v e = absurd (cc e)
@@ -98,14 +89,7 @@ whole outputs =
       record { cells = accesses_fit t 1 refl; reads = reads_of_one t (pos 0) (refl, (refl, (refl, tt))) },
       ended_one t (ended_between t 1 2 refl, (ended_between t 2 3 refl, tt)),
       record { refused = none_refused t refl refl refl; spent = λ is. tt },
-      record {
-        words = (_, refl, refl);
-        limits = in_range;
-        named = refl;
-        pending_last = pending_last t refl refl;
-        rolls_back = rolls_back t [] refl refl;
-        done = (before, after, reached p4, did, tt);
-      },
+      strands_by (one_strand t (Finished (pos 1 ∷ []) outputs)) (_, refl, refl) by_default refl refl refl refl refl (before, after, reached p4, did, tt),
       record { faulted = tt; memory = record { len = refl; each = value }; done = (before, after, reached p4, did, stands (pos 1 ∷ []) outputs) },
       no_cancels t (pos 0 ∷ []) refl,
       tt,
@@ -127,14 +111,7 @@ cut_off =
       record { cells = accesses_fit t 1 refl; reads = reads_of_one t (pos 0) (refl, (refl, (refl, tt))) },
       ended_one t (ended_between t 1 2 refl, (ended_between t 2 3 refl, tt)),
       record { refused = none_refused t refl refl refl; spent = λ is. tt },
-      record {
-        words = (_, refl, refl);
-        limits = in_range;
-        named = refl;
-        pending_last = pending_last t refl refl;
-        rolls_back = rolls_back t [] refl refl;
-        done = (before, after, reached p3, did_some, tt);
-      },
+      strands_by (one_strand t Moves) (_, refl, refl) by_default refl refl refl refl refl (before, after, reached p3, did_some, tt),
       record { faulted = tt; memory = tt; done = (before, after, reached p3, did_some, tt) },
       no_cancels t (pos 0 ∷ []) refl,
       tt,
@@ -164,14 +141,7 @@ not_ended =
       record { cells = accesses_fit t 1 refl; reads = reads_of_one t (pos 0) (refl, (refl, (refl, tt))) },
       ended_one t (ended_between t 1 2 refl, (ended_between t 2 3 refl, tt)),
       record { refused = none_refused t refl refl refl; spent = λ is. tt },
-      record {
-        words = (_, refl, refl);
-        limits = in_range;
-        named = refl;
-        pending_last = pending_last t refl refl;
-        rolls_back = rolls_back t [] refl refl;
-        done = (before, after, reached p3, did_some, tt);
-      },
+      strands_by (one_strand t (Finished (pos 1 ∷ []) [])) (_, refl, refl) by_default refl refl refl refl refl (before, after, reached p3, did_some, tt),
       tt,
       tt,
       tt,

@@ -2,13 +2,13 @@
 use Rattle.std.proofs.Common.{◌≡◌, ℕ, ℤ, zero, suc, ◌<◌, List, [], ◌∷◌, map, refl, arith, Some, pos}
 use Rattle.std.specs.Prelude.{slice_get}
 use Rattle.cw_strand.specs.declared.want.Given.TheVariants.{Nothing, Value}
-use Rattle.cw_strand.specs.Pasts.{Past, start, answered, left_of, right_of, joined_of, became}
+use Rattle.cw_strand.specs.Pasts.{Past, start, answered, joined_of, became}
 use Rattle.cw_strand.specs.Strands.{Strands}
 use Rattle.cw_tree.specs.declared.node.Node.{Node}
 use Rattle.cw_tree.specs.Accesses.{live_accesses, written, cell_value}
 use Rattle.cw_tree.specs.Worked.{committed}
 use Rattle.cw_tree.proofs.Cancels.{no_cancels}
-use Rattle.cw_tree.proofs.Worked.Checks.{is_tree, are_stamps, pending_last, rolls_back}
+use Rattle.cw_tree.proofs.Worked.Checks.{is_tree, are_stamps}
 use Rattle.cw_tree.proofs.Worked.KeptParts.{ended_between}
 use Rattle.cw_tree.proofs.Worked.KeptRuns.{ended_one}
 use Rattle.cw_job.specs.Room.Strands.{StrandState}
@@ -20,8 +20,7 @@ use Rattle.cw_audit.specs.declared.findings.Audit.TheVariants.{Sound, Broken}
 use Rattle.cw_audit.specs.Parts.{strands_of_sheet}
 use Rattle.cw_audit.specs.Audits.{accesses, blocks, IsAudit}
 use Rattle.cw_audit.specs.Worked.{readers, adders}
-use Rattle.cw_audit.proofs.Worked.Claims.{broken_row, sound_row, accesses_fit, none_pending, none_refused, no_fork, reads_of_one, past_in, all_over}
-use Rattle.cw_audit.proofs.Worked.Writers.{in_range}
+use Rattle.cw_audit.proofs.Worked.Claims.{broken_row, sound_row, accesses_fit, none_pending, none_refused, no_fork, reads_of_one, past_in, all_over, strands_by, by_default, left, right}
 
 -- ## Two readers that overlapped
 
@@ -34,26 +33,14 @@ s = strands_of_sheet c
 abbrev t : List Node
 t = c.tree
 
-abbrev l0 : Past
-l0 = left_of start
-
-abbrev l1 : Past
-l1 = answered l0 Nothing
-
 abbrev l2 : Past
-l2 = answered l1 (Value (pos 0))
+l2 = answered (left 1) (Value (pos 0))
 
 abbrev l3 : Past
 l3 = answered l2 Nothing
 
-abbrev r0 : Past
-r0 = right_of start
-
-abbrev r1 : Past
-r1 = answered r0 Nothing
-
 abbrev r2 : Past
-r2 = answered r1 (Value (pos 0))
+r2 = answered (right 1) (Value (pos 0))
 
 abbrev r3 : Past
 r3 = answered r2 Nothing
@@ -62,7 +49,7 @@ abbrev both : Past
 both = joined_of r3 l3
 
 abbrev before : ℕ → StrandState
-before n = became s (past_in (start ∷ start ∷ l0 ∷ l0 ∷ l1 ∷ r0 ∷ r0 ∷ r1 ∷ []) n)
+before n = became s (past_in (start ∷ start ∷ left 0 ∷ left 0 ∷ left 1 ∷ right 0 ∷ right 0 ∷ right 1 ∷ []) n)
 
 abbrev after : ℕ → StrandState
 after n = became s (past_in (start ∷ both ∷ start ∷ l3 ∷ l2 ∷ start ∷ r3 ∷ r2 ∷ []) n)
@@ -100,14 +87,7 @@ by_commits =
       record { cells = accesses_fit t 1 refl; reads = reads_of_one t (pos 0) (refl, (refl, tt)) },
       ended_one t (ended_between t 4 7 refl, tt),
       record { refused = none_refused t refl refl refl; spent = λ is. tt },
-      record {
-        words = (_, refl, refl);
-        limits = in_range;
-        named = refl;
-        pending_last = pending_last t refl refl;
-        rolls_back = rolls_back t [] refl refl;
-        done = (before, after, reached, did, tt);
-      },
+      strands_by c (_, refl, refl) by_default refl refl refl refl refl (before, after, reached, did, tt),
       record { faulted = tt; memory = record { len = refl; each = value }; done = (before, after, reached, did, stands) },
       no_cancels t (pos 0 ∷ []) refl,
       tt,

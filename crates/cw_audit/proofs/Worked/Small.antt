@@ -8,7 +8,7 @@ use Rattle.cw_tree.specs.declared.node.Node.{Node}
 use Rattle.cw_tree.specs.Journals.{JournalsEnded}
 use Rattle.cw_tree.specs.Worked.{pending}
 use Rattle.cw_tree.proofs.Cancels.{no_cancels}
-use Rattle.cw_tree.proofs.Worked.Checks.{is_tree, are_stamps, pending_last, rolls_back}
+use Rattle.cw_tree.proofs.Worked.Checks.{is_tree, are_stamps}
 use Rattle.cw_job.specs.Room.Strands.{StrandState}
 use Rattle.cw_record.specs.Coherent.{alone, Follows}
 use Rattle.cw_record.proofs.WorkedEnds.Parts.{follows}
@@ -18,8 +18,7 @@ use Rattle.cw_audit.specs.Journals.{ReadsAreRight}
 use Rattle.cw_audit.specs.Parts.{strands_of_sheet}
 use Rattle.cw_audit.specs.Audits.{strands, ending, IsAudit}
 use Rattle.cw_audit.specs.Worked.{blank, subtracts}
-use Rattle.cw_audit.proofs.Worked.Claims.{Before, broken_row, sound_row, accesses_fit, none_pending, none_refused, no_fork, past_in, all_over}
-use Rattle.cw_audit.proofs.Worked.Writers.{in_range}
+use Rattle.cw_audit.proofs.Worked.Claims.{Before, broken_row, sound_row, accesses_fit, none_pending, none_refused, no_fork, past_in, all_over, strands_by, by_default}
 
 -- without cells
 no_reads : (t : List Node) → ReadsAreRight t []
@@ -53,14 +52,7 @@ open_block =
       record { cells = accesses_fit t 0 refl; reads = no_reads t },
       no_journals t,
       record { refused = none_refused t refl refl refl; spent = λ is. tt },
-      record {
-        words = (_, refl, refl);
-        limits = in_range;
-        named = refl;
-        pending_last = pending_last t refl refl;
-        rolls_back = rolls_back t [] refl refl;
-        done = (at_begin, at_begin, begun, did_begin, tt);
-      },
+      strands_by b (_, refl, refl) by_default refl refl refl refl refl (at_begin, at_begin, begun, did_begin, tt),
       tt,
       tt,
       tt,
@@ -108,14 +100,7 @@ words =
       p2,
       p3,
       p4,
-      record {
-        words = (_, refl, refl);
-        limits = in_range;
-        named = refl;
-        pending_last = pending_last t refl refl;
-        rolls_back = rolls_back t [] refl refl;
-        done = (before, after, after, did, tt);
-      },
+      strands_by c (_, refl, refl) by_default refl refl refl refl refl (before, after, after, did, tt),
       record {
         faulted = tt;
         memory = record { len = refl; each = λ k v e. absurd (cc e) };

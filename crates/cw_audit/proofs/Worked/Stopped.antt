@@ -1,7 +1,6 @@
 -- The same strands, stopped by a budget that was spent.
 use Rattle.std.proofs.Common.{ℕ, [], ◌∷◌, refl, arith, pos}
-use Rattle.cw_strand.specs.declared.want.Given.TheVariants.{Nothing}
-use Rattle.cw_strand.specs.Pasts.{Past, start, answered, left_of, right_of, became}
+use Rattle.cw_strand.specs.Pasts.{start, became}
 use Rattle.cw_strand.specs.Strands.{Strands}
 use Rattle.cw_tree.specs.Worked.{apart}
 use Rattle.cw_tree.proofs.Worked.KeptRuns.{stops}
@@ -9,42 +8,24 @@ use Rattle.cw_job.specs.Room.Strands.{StrandState}
 use Rattle.cw_record.specs.Coherent.{Follows}
 use Rattle.cw_record.proofs.WorkedEnds.Parts.{follows}
 use Rattle.cw_audit.specs.declared.findings.Audit.TheVariants.{Sound, Broken}
-use Rattle.cw_audit.specs.Parts.{strands_of_sheet, AreInRange, AccessesHold}
+use Rattle.cw_audit.specs.Parts.{strands_of_sheet, AccessesHold}
 use Rattle.cw_audit.specs.Audits.{refusals, strands, IsAudit}
 use Rattle.cw_audit.specs.Worked.{stopped_by}
 use Rattle.cw_audit.proofs.Journals.{right_reads}
-use Rattle.cw_audit.proofs.Worked.Claims.{broken_row, sound_row, past_in}
+use Rattle.cw_audit.proofs.Worked.Claims.{broken_row, sound_row, past_in, left, right, in_range}
 
 abbrev s : Strands StrandState
 s = strands_of_sheet (stopped_by 1 5)
 
-abbrev l0 : Past
-l0 = left_of start
-
-abbrev l1 : Past
-l1 = answered l0 Nothing
-
-abbrev l2 : Past
-l2 = answered l1 Nothing
-
-abbrev r0 : Past
-r0 = right_of start
-
-abbrev r1 : Past
-r1 = answered r0 Nothing
-
-abbrev r2 : Past
-r2 = answered r1 Nothing
-
 -- nothing is said of a state behind a fork whose strands run
 abbrev before : ℕ → StrandState
-before n = became s (past_in (start ∷ start ∷ l0 ∷ l0 ∷ l1 ∷ r0 ∷ r0 ∷ r1 ∷ r2 ∷ []) n)
+before n = became s (past_in (start ∷ start ∷ left 0 ∷ left 0 ∷ left 1 ∷ right 0 ∷ right 0 ∷ right 1 ∷ right 2 ∷ []) n)
 
 abbrev after : ℕ → StrandState
-after n = became s (past_in (start ∷ start ∷ start ∷ l0 ∷ l2 ∷ start ∷ r0 ∷ r1 ∷ r2 ∷ []) n)
+after n = became s (past_in (start ∷ start ∷ start ∷ left 0 ∷ left 2 ∷ start ∷ right 0 ∷ right 1 ∷ right 2 ∷ []) n)
 
 abbrev reached : ℕ → StrandState
-reached n = became s (past_in (start ∷ start ∷ l0 ∷ l2 ∷ start ∷ r0 ∷ r1 ∷ r2 ∷ start ∷ []) n)
+reached n = became s (past_in (start ∷ start ∷ left 0 ∷ left 2 ∷ start ∷ right 0 ∷ right 1 ∷ right 2 ∷ start ∷ []) n)
 
 did : Follows s apart before after reached
 did =
@@ -56,15 +37,6 @@ did =
 accesses : AccessesHold apart (pos 0 ∷ [])
 accesses = record { cells = stops.history.cells; reads = right_reads apart (pos 0 ∷ []) _ stops.history.journals }
 
-in_range : AreInRange (stopped_by 1 5).limits
-in_range = record {
-  fuel = (omega arith, omega arith);
-  size = (omega arith, omega arith);
-  aborts = (omega arith, omega arith);
-  strands = (omega arith, omega arith);
-  moves = (omega arith, omega arith);
-}
-
 pub stopped : IsAudit (stopped_by 1 5) Sound
 stopped =
     sound_row (stopped_by 1 5) stops.history.tree refl (
@@ -74,7 +46,7 @@ stopped =
       record { refused = stops.history.refusals; spent = λ is. stops.spent },
       record {
         words = (_, refl, refl);
-        limits = in_range;
+        limits = in_range 1 (omega arith, omega arith);
         named = refl;
         pending_last = stops.history.pending_last;
         rolls_back = stops.history.rolls_back;

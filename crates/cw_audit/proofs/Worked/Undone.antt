@@ -3,14 +3,14 @@ use Rattle.std.proofs.Common.{◌≡◌, ℕ, ℤ, zero, suc, List, [], ◌∷�
 use Rattle.std.specs.Prelude.{slice_get}
 use Rattle.cw_strand.specs.declared.want.Want.TheVariants.{Store}
 use Rattle.cw_strand.specs.declared.want.Given.TheVariants.{Nothing, Value, Back as Wrote}
-use Rattle.cw_strand.specs.Pasts.{Past, start, answered, left_of, right_of, joined_of, became}
+use Rattle.cw_strand.specs.Pasts.{Past, start, answered, joined_of, became}
 use Rattle.cw_strand.specs.Strands.{Strands}
 use Rattle.cw_tree.specs.declared.node.Node.{Node}
 use Rattle.cw_tree.specs.Accesses.{live_accesses, written, cell_value}
 use Rattle.cw_tree.specs.Journals.{JournalsEnded}
 use Rattle.cw_tree.specs.Shape.{AreStamps}
 use Rattle.cw_tree.specs.WorkedRun.{had}
-use Rattle.cw_tree.proofs.Worked.Checks.{is_tree, are_stamps, pending_last, are_refusals, rolls_back}
+use Rattle.cw_tree.proofs.Worked.Checks.{is_tree, are_stamps, are_refusals}
 use Rattle.cw_tree.proofs.Worked.KeptParts.{ended_between, recorded}
 use Rattle.cw_job.specs.Room.Strands.{StrandState}
 use Rattle.cw_record.specs.declared.record_end.RecordEnd.TheVariants.{Finished}
@@ -20,8 +20,7 @@ use Rattle.cw_audit.specs.declared.findings.Audit.TheVariants.{Sound, Broken}
 use Rattle.cw_audit.specs.Parts.{strands_of_sheet, AccessesHold, RefusalsHold}
 use Rattle.cw_audit.specs.Audits.{strands, IsAudit}
 use Rattle.cw_audit.specs.Worked.{undone, undone_tree, refused_store}
-use Rattle.cw_audit.proofs.Worked.Claims.{broken_row, sound_row, accesses_fit, none_pending, no_fork, reads_of_two, are_cancels, past_in, all_over}
-use Rattle.cw_audit.proofs.Worked.Writers.{in_range}
+use Rattle.cw_audit.proofs.Worked.Claims.{broken_row, sound_row, accesses_fit, none_pending, no_fork, reads_of_two, are_cancels, past_in, all_over, strands_by, by_default, left, right}
 
 abbrev s : Strands StrandState
 s = strands_of_sheet (undone (pos 101))
@@ -50,27 +49,9 @@ refusals_of v budget memory outputs =
 
 -- ## What strands did
 
-abbrev l0 : Past
-l0 = left_of start
-
-abbrev l1 : Past
-l1 = answered l0 Nothing
-
-abbrev l2 : Past
-l2 = answered l1 Nothing
-
-abbrev l3 : Past
-l3 = answered l2 Nothing
-
-abbrev r0 : Past
-r0 = right_of start
-
-abbrev r1 : Past
-r1 = answered r0 Nothing
-
 -- the first attempt
 abbrev a2 : Past
-a2 = answered r1 (Value (pos 100))
+a2 = answered (right 1) (Value (pos 100))
 
 abbrev a3 : Past
 a3 = answered a2 Nothing
@@ -80,7 +61,7 @@ a4 = answered a3 (Wrote (had 0 (pos 5) ∷ had 7 (pos 5) ∷ []))
 
 -- the second attempt
 abbrev b2 : Past
-b2 = answered r1 (Value (pos 0))
+b2 = answered (right 1) (Value (pos 0))
 
 abbrev b3 : Past
 b3 = answered b2 Nothing
@@ -95,16 +76,16 @@ abbrev b6 : Past
 b6 = answered b5 Nothing
 
 abbrev both : Past
-both = joined_of b6 l3
+both = joined_of b6 (left 3)
 
 abbrev before : ℕ → StrandState
-before n = became s (past_in (start ∷ start ∷ l0 ∷ l0 ∷ l1 ∷ r0 ∷ r0 ∷ r1 ∷ a2 ∷ a3 ∷ a4 ∷ r0 ∷ r1 ∷ b2 ∷ b3 ∷ b4 ∷ []) n)
+before n = became s (past_in (start ∷ start ∷ left 0 ∷ left 0 ∷ left 1 ∷ right 0 ∷ right 0 ∷ right 1 ∷ a2 ∷ a3 ∷ a4 ∷ right 0 ∷ right 1 ∷ b2 ∷ b3 ∷ b4 ∷ []) n)
 
 abbrev after : ℕ → StrandState
-after n = became s (past_in (start ∷ both ∷ start ∷ l3 ∷ l2 ∷ start ∷ r0 ∷ a2 ∷ a3 ∷ a4 ∷ a4 ∷ b6 ∷ b2 ∷ b3 ∷ b4 ∷ b5 ∷ []) n)
+after n = became s (past_in (start ∷ both ∷ start ∷ left 3 ∷ left 2 ∷ start ∷ right 0 ∷ a2 ∷ a3 ∷ a4 ∷ a4 ∷ b6 ∷ b2 ∷ b3 ∷ b4 ∷ b5 ∷ []) n)
 
 abbrev reached : ℕ → StrandState
-reached n = became s (past_in (both ∷ start ∷ l3 ∷ l2 ∷ start ∷ b6 ∷ a4 ∷ start ∷ start ∷ start ∷ start ∷ b5 ∷ []) n)
+reached n = became s (past_in (both ∷ start ∷ left 3 ∷ left 2 ∷ start ∷ b6 ∷ a4 ∷ start ∷ start ∷ start ∷ start ∷ b5 ∷ []) n)
 
 did : Follows s t before after reached
 did =
@@ -174,14 +155,7 @@ rolled_back =
       accesses_of (pos 101),
       blocks_of (pos 101),
       refusals_of (pos 101) _ (pos 1 ∷ pos 0 ∷ []) [],
-      record {
-        words = (_, refl, refl);
-        limits = in_range;
-        named = refl;
-        pending_last = pending_last t refl refl;
-        rolls_back = rolls_back t (refused_store ∷ []) refl refl;
-        done = (before, after, reached, did, tt);
-      },
+      strands_by (undone (pos 101)) (_, refl, refl) by_default refl refl refl refl refl (before, after, reached, did, tt),
       record { faulted = tt; memory = record { len = refl; each = value }; done = (before, after, reached, did, stands (pos 1 ∷ pos 0 ∷ []) []) },
       are_cancels t (pos 0 ∷ pos 0 ∷ []) (tt, (tt, (tt, (tt, (tt, (tt, (tt, (tt, (tt, (tt, (tt, (tt, (tt, (tt, (record { block = refl; list = refl }, (tt, tt)))))))))))))))),
       tt,
@@ -193,9 +167,9 @@ writes_more : (b a r : ℕ → StrandState) → Follows s (undone_tree (pos 9)) 
 writes_more b a r d =
     let go : StrandState → StrandState = λ x. s.answer x Nothing in
     let at_fork : b 1 ≡ s.start = (d.series 0 (omega arith) refl).0 ∙ d.start in
-    let at_right : b 5 ≡ became s r0 = (d.fits 1 _ refl).1.1 ∙ ap s.right at_fork in
-    let at_block : b 6 ≡ became s r0 = (d.series 5 (omega arith) refl).0 ∙ at_right in
-    let at_read : b 7 ≡ became s r1 = (d.series 6 (omega arith) refl).0 ∙ ap go at_block in
+    let at_right : b 5 ≡ became s (right 0) = (d.fits 1 _ refl).1.1 ∙ ap s.right at_fork in
+    let at_block : b 6 ≡ became s (right 0) = (d.series 5 (omega arith) refl).0 ∙ at_right in
+    let at_read : b 7 ≡ became s (right 1) = (d.series 6 (omega arith) refl).0 ∙ ap go at_block in
     let at_write : b 8 ≡ became s a2 = (d.series 6 (omega arith) refl).1.0 ∙ (d.fits 7 _ refl).1 ∙ ap (λ x. s.answer x (Value (pos 100))) at_read in
     let z : Store 1 (pos 101) ≡ Store 1 (pos 9) = sym (ap s.want at_write) ∙ (d.fits 8 _ refl).0 in
     absurd (cc z)

@@ -11,7 +11,7 @@ use Rattle.cw_code.specs.declared.instruction.Func.{Func}
 use Rattle.cw_code.specs.Ranges.{default_limits}
 use Rattle.cw_strand.specs.declared.want.Want.TheVariants.{Store}
 use Rattle.cw_strand.specs.declared.want.Given.TheVariants.{Nothing}
-use Rattle.cw_strand.specs.Pasts.{Past, start, answered, left_of, right_of, joined_of, became}
+use Rattle.cw_strand.specs.Pasts.{Past, start, joined_of, became}
 use Rattle.cw_strand.specs.Strands.{Strands}
 use Rattle.cw_tree.specs.declared.conflict.Conflict.{Conflict}
 use Rattle.cw_tree.specs.declared.node.Node.{Node}
@@ -23,7 +23,7 @@ use Rattle.cw_tree.specs.Shape.{IsTree, AreStamps}
 use Rattle.cw_tree.specs.Worked.{pending, committed, aborted}
 use Rattle.cw_tree.specs.WorkedRun.{refused_write}
 use Rattle.cw_tree.proofs.Cancels.{no_cancels}
-use Rattle.cw_tree.proofs.Worked.Checks.{is_tree, are_stamps, pending_last, are_refusals, rolls_back, each_below, implies, implied}
+use Rattle.cw_tree.proofs.Worked.Checks.{is_tree, are_stamps, are_refusals, each_below, implies, implied}
 use Rattle.cw_tree.proofs.Worked.KeptParts.{ended_between, recorded}
 use Rattle.cw_tree.proofs.Worked.KeptRuns.{ended_one}
 use Rattle.cw_job.specs.Room.Strands.{StrandState}
@@ -31,55 +31,27 @@ use Rattle.cw_record.specs.declared.record_end.RecordEnd.TheVariants.{Finished, 
 use Rattle.cw_record.specs.Coherent.{StrandEnded, alone, joined, Follows, EndStands}
 use Rattle.cw_record.proofs.WorkedEnds.Parts.{follows}
 use Rattle.cw_audit.specs.declared.findings.Audit.TheVariants.{Sound, Broken}
-use Rattle.cw_audit.specs.Parts.{strands_of_sheet, TakesItsWords, AreInRange, AccessesHold, RefusalsHold, StrandsHold, EndHolds}
+use Rattle.cw_audit.specs.Parts.{strands_of_sheet, AccessesHold, RefusalsHold, StrandsHold, EndHolds}
 use Rattle.cw_audit.specs.Audits.{stamps, accesses, blocks, refusals, strands, ending, IsAudit}
 use Rattle.cw_audit.specs.Worked.{writers, writers_tree, writers_run, last_write, in_writers, two_writers, ended_with}
-use Rattle.cw_audit.proofs.Worked.Claims.{Before, broken_row, sound_row, order_row, accesses_fit, none_pending, no_fork, reads_of_one, past_in, all_over}
+use Rattle.cw_audit.proofs.Worked.Claims.{Before, broken_row, sound_row, order_row, accesses_fit, none_pending, no_fork, reads_of_one, past_in, all_over, strands_by, by_default, left, right}
 
 -- ## What strands did
 
 abbrev s : Strands StrandState
 s = strands_of_sheet two_writers
 
--- the left strand and the right one after so many answers
-abbrev l1 : Past
-l1 = answered (left_of start) Nothing
-
-abbrev l2 : Past
-l2 = answered l1 Nothing
-
-abbrev l3 : Past
-l3 = answered l2 Nothing
-
-abbrev r0 : Past
-r0 = right_of start
-
-abbrev r1 : Past
-r1 = answered r0 Nothing
-
-abbrev r2 : Past
-r2 = answered r1 Nothing
-
-abbrev r3 : Past
-r3 = answered r2 Nothing
-
-abbrev r4 : Past
-r4 = answered r3 Nothing
-
-abbrev r5 : Past
-r5 = answered r4 Nothing
-
 abbrev both : Past
-both = joined_of r5 l3
+both = joined_of (right 5) (left 3)
 
 abbrev before : ℕ → StrandState
-before n = became s (past_in (start ∷ start ∷ left_of start ∷ left_of start ∷ l1 ∷ r0 ∷ r0 ∷ r1 ∷ r2 ∷ r0 ∷ r1 ∷ r2 ∷ []) n)
+before n = became s (past_in (start ∷ start ∷ left 0 ∷ left 0 ∷ left 1 ∷ right 0 ∷ right 0 ∷ right 1 ∷ right 2 ∷ right 0 ∷ right 1 ∷ right 2 ∷ []) n)
 
 abbrev after : ℕ → StrandState
-after n = became s (past_in (start ∷ both ∷ start ∷ l3 ∷ l2 ∷ start ∷ r0 ∷ r1 ∷ r2 ∷ r5 ∷ r4 ∷ r3 ∷ []) n)
+after n = became s (past_in (start ∷ both ∷ start ∷ left 3 ∷ left 2 ∷ start ∷ right 0 ∷ right 1 ∷ right 2 ∷ right 5 ∷ right 4 ∷ right 3 ∷ []) n)
 
 abbrev reached : ℕ → StrandState
-reached n = became s (past_in (both ∷ start ∷ l3 ∷ l2 ∷ start ∷ r5 ∷ r1 ∷ r2 ∷ start ∷ r4 ∷ r3 ∷ start ∷ []) n)
+reached n = became s (past_in (both ∷ start ∷ left 3 ∷ left 2 ∷ start ∷ right 5 ∷ right 1 ∷ right 2 ∷ start ∷ right 4 ∷ right 3 ∷ start ∷ []) n)
 
 -- ## The run, whatever the stamp of its fork
 
@@ -108,30 +80,11 @@ stands fork memory outputs = (
   all_over s (run fork) before after reached ((((((((((((tt, root_ended fork), tt), left_ended fork), tt), tt), right_ended fork), tt), tt), tt), tt), tt), tt),
 )
 
-takes : TakesItsWords two_writers
-takes = (_, refl, refl)
-
-pub in_range : AreInRange default_limits
-in_range = record {
-  fuel = (omega arith, omega arith);
-  size = (omega arith, omega arith);
-  aborts = (omega arith, omega arith);
-  strands = (omega arith, omega arith);
-  moves = (omega arith, omega arith);
-}
-
 tree_of : (fork : ℕ) → IsTree (run fork)
 tree_of fork = is_tree (run fork) (omega arith) refl refl refl refl refl
 
 strands_hold : (fork : ℕ) (memory outputs : List ℤ) → StrandsHold (writers (run fork) (refused_write ∷ []) (Finished memory outputs))
-strands_hold fork memory outputs = record {
-  words = takes;
-  limits = in_range;
-  named = refl;
-  pending_last = pending_last (run fork) refl refl;
-  rolls_back = rolls_back (run fork) (refused_write ∷ []) refl refl;
-  done = (before, after, reached, did fork, tt);
-}
+strands_hold fork memory outputs = strands_by (writers (run fork) (refused_write ∷ []) (Finished memory outputs)) (_, refl, refl) by_default refl refl refl refl refl (before, after, reached, did fork, tt)
 
 value : (fork c : ℕ) (v : ℤ) → slice_get (pos 0 ∷ []) c ≡ Some v → slice_get (pos 2 ∷ []) c ≡ Some (cell_value v (map (written (run fork)) (live_accesses (run fork) c)))
 value fork zero v e = refl
