@@ -4,4 +4,5 @@ pub mod Records
 pub mod Order
 pub mod OneAnswer
 pub mod OverSource
+pub mod TwoBlocks
 mod Worked

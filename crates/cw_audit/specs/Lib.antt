@@ -2,4 +2,5 @@ pub mod Journals
 pub mod Parts
 pub mod Audits
 pub mod Laws
+pub mod TwoBlocks
 pub mod Worked

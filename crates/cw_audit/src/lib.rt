@@ -1,10 +1,12 @@
 //! Audits of record sheets: whether a run can have been as its sheet tells. Definitions and laws; no call audits yet.
 //! Use the laws to conclude from its parts that a sheet tells a coherent run, or from a coherent record that its sheet is sound.
 //! Contracts cite `specs/Audits.antt` (what an audit answers), over `specs/Parts.antt` (the parts) and `specs/Journals.antt` (the
-//! journals that a tree tells), and `specs/Laws.antt` (what the parts say together). `specs/Worked.antt` tries them on examples.
+//! journals that a tree tells), and `specs/Laws.antt` (what the parts say together). `specs/TwoBlocks.antt` is a short way to part 3, and `specs/Worked.antt`
+//! tries it all on examples.
 #![tactic(auto)]
 
 ghost use Rattle.cw_audit.specs.Laws.{AuditsAreOne, CoherentAreSound, OnlyOutputsBreakOrder, OrderIsOutputs, PartsAreCoherence, RecordsByParts, SoundOverSource};
+ghost use Rattle.cw_audit.specs.TwoBlocks.{EndedByTwo};
 ghost use Rattle.cw_audit.specs.Worked.{BrokenSheets, SoundSheets};
 
 mod findings;
@@ -33,6 +35,11 @@ pub fn order_is_outputs()
 /// Law: a sound sheet replays over the syntax tree of its source, so that nobody need read code or the compiler.
 pub fn sound_over_source()
     ensures { SoundOverSource }
+{}
+
+/// Law: for two neighbours in a journal, two blocks above the first tell whether part 3 holds of them, if part 1 holds.
+pub fn two_blocks_tell()
+    ensures { EndedByTwo }
 {}
 
 /// Law: no sheet has two answers.
