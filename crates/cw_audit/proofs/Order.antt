@@ -32,7 +32,7 @@ use Rattle.cw_sheet.specs.Contents.{Contents}
 use Rattle.cw_audit.specs.Journals.{journals_told}
 use Rattle.cw_audit.specs.Parts.{first_values, strands_of_sheet}
 use Rattle.cw_audit.specs.Audits.{Part, stamps, accesses, blocks, refusals, strands, ending, cancels, order, part_number, PartHolds}
-use Rattle.cw_audit.specs.Laws.{HoldsButOrder, OrderIsOutputs, OutputsDiffer, OnlyOutputsBreakOrder}
+use Rattle.cw_audit.specs.Laws.{HoldsButOrder, OrderIsOutputs, OutputsDiffer, OnlyOutputsBreakOrder, SoundIsCoherence}
 use Rattle.cw_audit.proofs.Coherence.{parts_are_coherence}
 
 -- ## A machine that shows that it finished
@@ -146,3 +146,9 @@ all_parts c h last refusals = h refusals (omega arith)
 all_parts c h last strands = h strands (omega arith)
 all_parts c h last ending = h ending (omega arith)
 all_parts c h last cancels = h cancels (omega arith)
+
+pub sound_is_coherence : SoundIsCoherence
+sound_is_coherence c tree named = (
+  λ a. ((parts_are_coherence c tree).0 (λ p l. a p), (order_is_outputs c tree named (λ p l. a p)).0 (a order)),
+  λ w. (let h = (parts_are_coherence c tree).1 w.0 in all_parts c h ((order_is_outputs c tree named h).1 w.1)),
+)

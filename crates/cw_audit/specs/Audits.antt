@@ -36,7 +36,7 @@ abbrev pub PartHolds : Contents → Part → Type 0
 -- stamps and end stamps differ, and rise along the tree
 PartHolds c stamps = AreStamps c.tree
 PartHolds c accesses = AccessesHold c.tree (first_values c)
--- between an access and the next one of its cell, the blocks around the first and not around the second were committed
+-- the blocks around a live access and not around the next one of its cell were committed before that
 PartHolds c blocks = JournalsEnded c.tree (length (first_values c))
 PartHolds c refusals = RefusalsHold c.tree c.conflicts c.limits.aborts c.end
 PartHolds c strands = StrandsHold c

@@ -62,6 +62,12 @@ OrderIsOutputs =
     (c : Contents) → IsTree c.tree → naming_fault c.source.items ≡ None → HoldsButOrder c
     → PartHolds c order ↔ HasOutputs c.tree c.conflicts c.limits.aborts c.end
 
+-- A sheet is sound exactly if it tells a coherent run and has the outputs of its output nodes.
+abbrev pub SoundIsCoherence : Type 0
+SoundIsCoherence =
+    (c : Contents) → IsTree c.tree → naming_fault c.source.items ≡ None
+    → IsAudit c Sound ↔ (TellsCoherent c × HasOutputs c.tree c.conflicts c.limits.aborts c.end)
+
 -- One memory does all that the sheet says and finishes with the sheet's memory, but with other outputs.
 pub record OutputsDiffer (c : Contents) : Type 0 where
   pub memory : List ℤ

@@ -1,11 +1,11 @@
 //! Audits of record sheets: whether a run can have been as its sheet tells. Definitions and laws; no call audits yet.
 //! Use the laws to conclude from its parts that a sheet tells a coherent run, or from a coherent record that its sheet is sound.
 //! Contracts cite `specs/Audits.antt` (what an audit answers), over `specs/Parts.antt` (the parts) and `specs/Journals.antt` (the
-//! journals that a tree tells), and `specs/Laws.antt` (what the parts say together). `specs/TwoBlocks.antt` is a short way to part 3, and `specs/Worked.antt`
-//! tries it all on examples.
+//! journals that a tree tells), and `specs/Laws.antt` (what the parts say together). `specs/TwoBlocks.antt` is a short way to part
+//! 3. `specs/Worked.antt` tries it all on examples.
 #![tactic(auto)]
 
-ghost use Rattle.cw_audit.specs.Laws.{AuditsAreOne, CoherentAreSound, OnlyOutputsBreakOrder, OrderIsOutputs, PartsAreCoherence, RecordsByParts, SoundOverSource};
+ghost use Rattle.cw_audit.specs.Laws.{AuditsAreOne, CoherentAreSound, OnlyOutputsBreakOrder, OrderIsOutputs, PartsAreCoherence, RecordsByParts, SoundIsCoherence, SoundOverSource};
 ghost use Rattle.cw_audit.specs.TwoBlocks.{EndedByTwo};
 ghost use Rattle.cw_audit.specs.Worked.{BrokenSheets, SoundSheets};
 
@@ -20,9 +20,11 @@ pub fn parts_are_coherence()
     ensures records { RecordsByParts }
 {}
 
-/// Law: the sheet of a coherent record that has its outputs, and whose limits are in range, is sound.
+/// Law: a sheet is sound exactly if it tells a coherent run and has its outputs. So is the sheet of a coherent record that has its
+/// outputs, if its limits are in range.
 pub fn coherent_are_sound()
-    ensures { CoherentAreSound }
+    ensures sheets { SoundIsCoherence }
+    ensures records { CoherentAreSound }
 {}
 
 /// Law: once parts 1 to 7 hold, part 8 is about outputs alone. If it does not hold, one memory finishes with the same memory and
