@@ -5,4 +5,5 @@ pub mod Order
 pub mod OneAnswer
 pub mod OverSource
 pub mod TwoBlocks
+pub mod Together
 mod Worked

@@ -95,10 +95,10 @@ not_open true Pending e = absurd (cc e)
 not_open true Aborted e = absurd (cc e)
 not_open false s e = absurd (cc e)
 
-committed_not_pending : (t : List Node) (n : ℕ) → is_committed t n ≡ true → is_pending t n ≡ false
+pub committed_not_pending : (t : List Node) (n : ℕ) → is_committed t n ≡ true → is_pending t n ≡ false
 committed_not_pending t = node_tells false t (λ x. is_block_kind x.kind && is_committed_state x.state) (λ x. is_block_kind x.kind && is_pending_state x.state) (λ x. not_open (is_block_kind x.kind) x.state)
 
-either : (b : Bool) → (b ≡ true) ⊎ (b ≡ false)
+pub either : (b : Bool) → (b ≡ true) ⊎ (b ≡ false)
 either true = inl refl
 either false = inr refl
 

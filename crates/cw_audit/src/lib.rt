@@ -1,11 +1,12 @@
 //! Audits of record sheets: whether a run can have been as its sheet tells. Definitions and laws; no call audits yet.
 //! Use the laws to conclude from its parts that a sheet tells a coherent run, or from a coherent record that its sheet is sound.
 //! Contracts cite `specs/Audits.antt` (what an audit answers), over `specs/Parts.antt` (the parts) and `specs/Journals.antt` (the
-//! journals that a tree tells), and `specs/Laws.antt` (what the parts say together). `specs/TwoBlocks.antt` is a short way to part
-//! 3. `specs/Worked.antt` tries it all on examples.
+//! journals that a tree tells), and `specs/Laws.antt` (what the parts say together). `specs/TwoBlocks.antt` and `Together` are short
+//! ways to parts 3 and 7. `specs/Worked.antt` tries it all on examples.
 #![tactic(auto)]
 
 ghost use Rattle.cw_audit.specs.Laws.{AuditsAreOne, CoherentAreSound, OnlyOutputsBreakOrder, OrderIsOutputs, PartsAreCoherence, RecordsByParts, SoundIsCoherence, SoundOverSource};
+ghost use Rattle.cw_audit.specs.Together.{AccessesAreTogether, WrittenByPairs};
 ghost use Rattle.cw_audit.specs.TwoBlocks.{EndedByTwo};
 ghost use Rattle.cw_audit.specs.Worked.{BrokenSheets, SoundSheets};
 
@@ -42,6 +43,13 @@ pub fn sound_over_source()
 /// Law: for two neighbours in a journal, two blocks above the first tell whether part 3 holds of them, if part 1 holds.
 pub fn two_blocks_tell()
     ensures { EndedByTwo }
+{}
+
+/// Law: if parts 1 and 3 hold, the live accesses of a cell beneath a block are together in its journal. So neighbours among its live
+/// writes tell whether the cell was written beneath the block.
+pub fn accesses_are_together()
+    ensures together { AccessesAreTogether }
+    ensures written { WrittenByPairs }
 {}
 
 /// Law: no sheet has two answers.
