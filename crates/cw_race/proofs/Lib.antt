@@ -1,1 +1,7 @@
 pub mod Readers
+pub mod Racing
+pub mod Groups
+pub mod Searching
+pub mod Noting
+pub mod Counted
+pub mod Listing

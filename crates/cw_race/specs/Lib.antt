@@ -1,2 +1,4 @@
 pub mod Kept
+pub mod Races
+pub mod InMemory
 pub mod Worked

@@ -1,17 +1,30 @@
-//! Races inside blocks: which accesses of one cell in one block are in parallel, if one of them writes. Laws; no code that runs.
-//! Contracts cite `specs/Kept.antt` (accesses in two orders, what is kept of them, and what that tells). `specs/Worked.antt` tries it.
+//! Races inside blocks: accesses of one cell in one block that are in parallel, one of which writes.
+//! Use `races` on the record of one worker's run.
+//! Contracts cite `specs/Races.antt` (races, and the first one of each cell) and `specs/Kept.antt` (accesses in two orders, what is kept of
+//! them, and what that tells). `specs/Worked.antt` tries them.
 #![tactic(auto)]
 
-ghost use Rattle.cw_race.specs.Kept.{KeptIsEnough};
-ghost use Rattle.cw_race.specs.Worked.{Rows};
+ghost use Rattle.cw_race.specs.Kept.{KeptIsEnough, RivalsRace};
+ghost use Rattle.cw_race.specs.Worked.{Keeping, Racing, Quiet};
 
-/// Law: while no two accesses of a cell in a block race, the last writer and one reader tell whether the next access races
-/// with any of them. The reader is replaced only by a read that comes after it in series.
+mod kept;
+mod race;
+mod finding;
+mod search;
+
+pub use race::Race;
+pub use finding::races;
+
+/// Law: while no two accesses of a cell in a block race, the last writer and one reader tell whether the next access races with any of
+/// them, and with which. The reader is replaced only by a read that comes after it in series.
 pub fn kept_is_enough()
-    ensures { KeptIsEnough }
+    ensures enough { KeptIsEnough }
+    ensures rivals { RivalsRace }
 {}
 
-/// Computed examples: what is kept of a few accesses, and whether the next one races.
-pub fn worked_accesses()
-    ensures { Rows }
+/// Computed examples: what is kept of a few accesses, and which accesses of small trees race.
+pub fn worked_races()
+    ensures kept { Keeping }
+    ensures racing { Racing }
+    ensures quiet { Quiet }
 {}

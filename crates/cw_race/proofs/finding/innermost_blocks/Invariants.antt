@@ -1,0 +1,8 @@
+use Rattle.std.proofs.Common.{◌≡◌, map}
+use Rattle.cw_tree.specs.Nodes.{below}
+use Rattle.cw_tree.specs.Walks.{xparent}
+use Rattle.cw_race.proofs.finding.innermost_blocks.Given as goal
+
+-- the nodes below this one have their blocks
+abbrev pub invariant-loop-n : goal.invariant-loop-n
+invariant-loop-n l = l.blocks.items ≡ map (xparent l.tree) (below l.n)
