@@ -1,6 +1,6 @@
 -- The races that a search has found, as a list.
-use Rattle.std.proofs.Common.{◌≡◌, ℕ, List, [], ◌∷◌, map, refl, ap, sym, ◌∙◌, Option, Some, None, Result, Ok, Err, subst}
-use Rattle.std.specs.Prelude.{All, Contains, IfOk, OnOk}
+use Rattle.std.proofs.Common.{◌≡◌, ℕ, List, map, refl, sym, ◌∙◌, Option, Some, None, Result, Ok, Err, subst}
+use Rattle.std.specs.Prelude.{Contains, IfOk, OnOk}
 use Rattle.std.specs.List.Sorted.{IsStrictlySortedBy}
 use Rattle.std.specs.BTreeMap.{BTreeMap, get, keys, values, IsOrdered}
 use Rattle.std.specs.Ordering.{nat_cmp}
@@ -13,7 +13,7 @@ use Rattle.cw_tree.proofs.Members.{all_at, all_of, in_map, map_same}
 use Rattle.cw_tree.proofs.Maps.{in_keys}
 use Rattle.cw_sp.proofs.Lines.{contains}
 use Rattle.cw_race.specs.declared.race.Race.{Race}
-use Rattle.cw_race.specs.Races.{are_racing, IsFirstRace, AreRaces}
+use Rattle.cw_race.specs.Races.{IsFirstRace, AreRaces}
 use Rattle.cw_race.specs.InMemory.{AreFound}
 
 module _ (t : List Node) (m : BTreeMap ℕ Race) (ordered : IsOrdered nat_cmp m) (w : AreFound t (get nat_cmp m)) where

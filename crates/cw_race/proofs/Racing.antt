@@ -1,16 +1,16 @@
 -- Two accesses of a tree that is numbered depth first race exactly if the Hebrew order has the later one first, one of them writes, and they
 -- are of one group.
-use Rattle.std.proofs.Common.{◌≡◌, ◌≢◌, ℕ, zero, suc, ◌<◌, ◌≤◌, List, [], ◌∷◌, length, refl, ap, sym, ◌∙◌, arith, Bool, true, false, cond, Option, Some, None, inl, inr, subst, nat_lt}
+use Rattle.std.proofs.Common.{◌≡◌, ◌≢◌, ℕ, zero, suc, ◌<◌, List, [], ◌∷◌, length, refl, ap, sym, ◌∙◌, arith, Bool, true, false, cond, Option, Some, None, inl, inr, subst, nat_lt}
 use Rattle.std.specs.Prelude.{◌⊎◌, ◌==◌, ◌&&◌, ◌||◌, not, slice_get}
 use Rattle.std.specs.List.{filter}
-use Rattle.std.proofs.lemmas.Bool.{and_parts, and_from, lt-ltb, le-ltb, ltb-true, cases_eq, cases_order, false_from_ne_true}
+use Rattle.std.proofs.lemmas.Bool.{and_parts, and_from, lt-ltb, le-ltb, ltb-true, cases_eq, cases_order}
 use Rattle.cw_order.specs.Order.{position}
 use Rattle.cw_tree.specs.declared.node.Node.{Node}
 use Rattle.cw_tree.specs.declared.node.Kind.{Kind}
 use Rattle.cw_tree.specs.declared.node.Kind.TheVariants.{Strand, Fork, Block, Read, Write, Out, Tried, Cancel}
 use Rattle.cw_tree.specs.Nodes.{passes, touches, touches_kind, is_strand_kind, is_fork_kind, is_block_kind, below, all_nodes}
 use Rattle.cw_tree.specs.Walks.{xparent}
-use Rattle.cw_tree.specs.Series.{parallel, depth_first}
+use Rattle.cw_tree.specs.Series.{parallel}
 use Rattle.cw_tree.specs.Shape.{IsTree}
 use Rattle.cw_tree.specs.Accesses.{is_live}
 use Rattle.cw_tree.proofs.Lists.{In}
@@ -18,7 +18,7 @@ use Rattle.cw_tree.proofs.Members.{below_in, filter_in, in_filter, in_below}
 use Rattle.cw_tree.proofs.Ahead.{apart_below}
 use Rattle.cw_tree.proofs.Rising.{below_rises, rises_ahead}
 use Rattle.cw_tree.proofs.Walks.There.{node_there}
-use Rattle.cw_sp.specs.Orders.{english, hebrew, mirrored, stands_before, orders_differ, is_leaf}
+use Rattle.cw_sp.specs.Orders.{english, hebrew, mirrored, stands_before, is_leaf}
 use Rattle.cw_sp.proofs.Positions.{position_here, position_later, ahead_position}
 use Rattle.cw_sp.proofs.Orders.{english_is_depth_first, by_mirror, leaf_there, leaves_by_orders}
 use Rattle.cw_sp.proofs.BothLines.{all_visited}

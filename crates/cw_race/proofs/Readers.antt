@@ -228,6 +228,7 @@ module _ (hebrew : ℕ → ℕ) (writes : ℕ → Bool) where
     rival_races u e = by first_test second_test refl refl e where
       parallel : (o : Option ℕ) → o ≡ Some u → is_parallel_to hebrew writes o v ≡ true → hebrew v < hebrew u
       parallel o q f = let P : Option ℕ → Type 0 = IsPast v in subst P q (told_past v o f)
+
       by : (a b : Bool) → first_test ≡ a → second_test ≡ b → cond a writer (cond b reader None) ≡ Some u → In u xs × (races hebrew writes u v ≡ true)
       by true b p q e = let z = last_writer_in xs u e in (z.0, race_told u v (parallel writer e p, or_left (writes u) (writes v) z.1))
       by false true p q e =

@@ -1,10 +1,10 @@
 -- A search, as it comes to one node after another.
-use Rattle.std.proofs.Common.{◌≡◌, ◌≢◌, ℕ, zero, suc, ◌+◌, ◌<◌, ◌≤◌, List, [], ◌∷◌, ◌++◌, length, refl, ap, sym, ◌∙◌, arith, Bool, true, false, cond, Option, Some, None, inl, inr, subst, nat_lt}
-use Rattle.std.specs.Prelude.{◌⊎◌, ◌==◌, ◌&&◌, ◌||◌, not, is_some, unwrap_or}
+use Rattle.std.proofs.Common.{◌≡◌, ◌≢◌, ℕ, suc, ◌+◌, ◌<◌, ◌≤◌, List, [], ◌∷◌, ◌++◌, length, refl, ap, sym, ◌∙◌, arith, Bool, true, false, cond, Option, Some, None, inl, inr, subst}
+use Rattle.std.specs.Prelude.{◌⊎◌, ◌&&◌, not, is_some, unwrap_or}
 use Rattle.std.specs.Map.{lookup}
 use Rattle.std.specs.BTreeMap.{BTreeMap, get, Updates, is_at}
 use Rattle.std.specs.Ordering.{is_eq, nat_cmp}
-use Rattle.std.proofs.lemmas.Bool.{and_parts, and_from, and_left, lt-ltb, ltb-true, eqb-true, eq-eqb, ne_eqb, cases_eq, false_from_ne_true, not_from_false}
+use Rattle.std.proofs.lemmas.Bool.{and_parts, and_from, and_left, eqb-true, eq-eqb, ne_eqb, cases_eq, false_from_ne_true, not_from_false}
 use Rattle.cw_tree.specs.declared.node.Node.{Node}
 use Rattle.cw_tree.specs.Nodes.{touches, is_aborted, below}
 use Rattle.cw_tree.specs.Walks.{xparent, above}
@@ -15,7 +15,7 @@ use Rattle.cw_tree.proofs.Rising.{Rises, below_rises, rises_filter}
 use Rattle.cw_sp.specs.Orders.{english, stands_before, is_leaf}
 use Rattle.cw_record.specs.Items.{same_block}
 use Rattle.cw_record.specs.Records.{IsNumberedDepthFirst}
-use Rattle.cw_record.proofs.Orders.Homes.{same_block_true, same_block_self}
+use Rattle.cw_record.proofs.Orders.Homes.{same_block_true}
 use Rattle.cw_race.specs.declared.race.Race.{Race}
 use Rattle.cw_race.specs.declared.kept.Kept.{Kept}
 use Rattle.cw_race.specs.declared.search.Search.{Search}
@@ -23,8 +23,8 @@ use Rattle.cw_race.specs.Kept.{races, races_with, rival}
 use Rattle.cw_race.specs.Races.{is_access, writes, are_racing, IsFirstRace, cell_of}
 use Rattle.cw_race.specs.InMemory.{Group, group_cmp, nothing_kept, kept_at, AreLeaves, rival_of, kept_after, IsNoted, known, finds, keeps, AreFound}
 use Rattle.cw_race.proofs.Readers.{Races, NoRace, race_told, rival_races, rival_found}
-use Rattle.cw_race.proofs.Racing.{access_leaf, access_there, touches_is, no_touch, hebrew_place, group, is_first, Racing, racing, race_from, race_in_group, group_race}
-use Rattle.cw_race.proofs.Groups.{same_number, same_groups, group_more, group_same, Member, member, kept_of, kept_leaves, rival_is, kept_more}
+use Rattle.cw_race.proofs.Racing.{access_leaf, access_there, touches_is, no_touch, hebrew_place, group, is_first, racing, race_from, race_in_group, group_race}
+use Rattle.cw_race.proofs.Groups.{same_number, same_groups, group_more, group_same, member, kept_of, kept_leaves, rival_is, kept_more}
 
 -- no two of a rising list race if none does with a smaller one
 none_in : (hebrew : ℕ → ℕ) (w : ℕ → Bool) (xs : List ℕ) → Rises xs → ((x y : ℕ) → In x xs → In y xs → x < y → Races hebrew w x y → ⊥) → NoRace hebrew w xs

@@ -7,13 +7,13 @@
 ghost use Rattle.cw_race.specs.Kept.{KeptIsEnough, RivalsRace};
 ghost use Rattle.cw_race.specs.Worked.{Keeping, Racing, Quiet};
 
+mod finding;
 mod kept;
 mod race;
-mod finding;
 mod search;
 
-pub use race::Race;
 pub use finding::races;
+pub use race::Race;
 
 /// Law: while no two accesses of a cell in a block race, the last writer and one reader tell whether the next access races with any of
 /// them, and with which. The reader is replaced only by a read that comes after it in series.

@@ -36,17 +36,17 @@ loop-n-preserved g c =
     let Q : ℕ → Type 0 = λ k. Searched t k c.loop-n.search in
     elim c.match-cell_of.branch [
       | in-Some+in_ok-note w ↦ (let is = sym c.cell_of.ensures ∙ w.in-Some.is in record {
-          searched = subst P (sym w.search-is)
-              (noted_here t c.requires.tree c.requires.numbered c.requires.live n there c.loop-n.search c.loop-n.invariant.searched w.in-Some.cell is c.args.pairs.now c.requires.pairs
-              (slice_index_or c.args.blocks.now n None) (ap (λ xs. slice_index_or xs n None) c.requires.blocks ∙ get_map_below (xparent t) (length t) n None there)
-              w.writes.result w.writes.ensures w.note.new.self w.in_ok-note.ensures.noted);
-          cost = omega (arith, w.steps-is, w.in_ok-note.ensures.cost, c.loop-n.invariant.cost, counted_access t n w.in-Some.cell is, ap (counted t) next);
-        })
+        searched = subst P (sym w.search-is)
+            (noted_here t c.requires.tree c.requires.numbered c.requires.live n there c.loop-n.search c.loop-n.invariant.searched w.in-Some.cell is c.args.pairs.now c.requires.pairs
+            (slice_index_or c.args.blocks.now n None) (ap (λ xs. slice_index_or xs n None) c.requires.blocks ∙ get_map_below (xparent t) (length t) n None there)
+            w.writes.result w.writes.ensures w.note.new.self w.in_ok-note.ensures.noted);
+        cost = omega (arith, w.steps-is, w.in_ok-note.ensures.cost, c.loop-n.invariant.cost, counted_access t n w.in-Some.cell is, ap (counted t) next);
+      })
       | in_default w ↦ record {
-          searched = subst P (sym w.search-is)
-              (subst Q next (search_passes t c.requires.tree c.requires.numbered c.requires.live n there c.loop-n.search c.loop-n.invariant.searched (sym c.cell_of.ensures ∙ w.in_default.is)));
-          cost = omega (arith, w.steps-is, c.loop-n.invariant.cost, counted_other t n, ap (counted t) next);
-        }
+        searched = subst P (sym w.search-is)
+            (subst Q next (search_passes t c.requires.tree c.requires.numbered c.requires.live n there c.loop-n.search c.loop-n.invariant.searched (sym c.cell_of.ensures ∙ w.in_default.is)));
+        cost = omega (arith, w.steps-is, c.loop-n.invariant.cost, counted_other t n, ap (counted t) next);
+      }
     ]
 
 pub returns-clause-found : goal.returns-clause-found
