@@ -13,7 +13,7 @@ new_program race_pairs cw_base cw_text cw_code cw_strand cw_compile cw_job cw_or
 cat > src/main.rt <<'END'
 #![tactic(auto)]
 
-use cw_base::Seq;
+use cw_base::{OutOfMemory, Seq};
 use cw_code::{Limits, Program};
 use cw_compile::compile;
 use cw_order::Steps;
@@ -26,10 +26,10 @@ use std::env;
 use std::io;
 use std::marker::Brand;
 use std::sync::ledger::{Blank, Ledger};
-use std::test::Fail;
 
 const CELLS: u32 = 3;
 
+#[derive(Drop)]
 struct Draw {
     state: u64,
 }
@@ -52,16 +52,16 @@ struct Open {
     strands: Option<u32>,
 }
 
-fn add(tree: &mut Tree, parent: u32, kind: Kind) -> Result<u32, Fail> {
+fn add(tree: &mut Tree, parent: u32, kind: Kind) -> Result<u32, OutOfMemory> {
     let stamp = tree.nodes().len() as u64;
     Ok(tree.add(parent, kind, stamp)?)
 }
 
 // Adds a random node to a strand or block, or ends it. Returns what is open from then on, if that is a new node.
-fn step(tree: &mut Tree, draw: &mut Draw, at: u32) -> Result<Option<Option<Open>>, Fail> {
+fn step(tree: &mut Tree, draw: &mut Draw, at: u32) -> Result<Option<Option<Open>>, OutOfMemory> {
     let cell = draw.below(CELLS);
     Ok(match draw.below(12) {
-        0 | 1 => None,
+        0 | 1 if at > 0 => None,
         2 | 3 | 4 => Some(Some(Open {
             node: add(tree, at, Kind::Fork)?,
             strands: Some(0),
@@ -85,7 +85,7 @@ fn step(tree: &mut Tree, draw: &mut Draw, at: u32) -> Result<Option<Option<Open>
     })
 }
 
-fn grown(alloc: Global, draw: &mut Draw) -> Result<Tree, Fail> {
+fn grown(alloc: Global, draw: &mut Draw) -> Result<Tree, OutOfMemory> {
     let mut tree = Tree::new(alloc)?;
     let most = 4 + draw.below(50) as usize;
     let mut stack = Vec::new(alloc);
@@ -174,14 +174,18 @@ fn agree(tree: &Tree, found: &[Race]) -> bool {
     at == found.len()
 }
 
-fn program(alloc: Global) -> Result<Program, Fail> {
-    let read = read_program(alloc, "fn main() {}".as_bytes())?;
-    let compiled = compile(alloc, &read);
-    drop(read);
-    Ok(compiled?)
+fn program(alloc: Global) -> Result<Program, OutOfMemory> {
+    match read_program(alloc, "fn main() {}".as_bytes()) {
+        Ok(read) => {
+            let compiled = compile(alloc, &read);
+            drop(read);
+            compiled.or(Err(OutOfMemory))
+        }
+        Err(_) => Err(OutOfMemory),
+    }
 }
 
-fn record(alloc: Global, tree: Tree) -> Result<Record, Fail> {
+fn record(alloc: Global, tree: Tree) -> Result<Record, OutOfMemory> {
     let limits = Limits {
         fuel: 9,
         size: 9,
@@ -199,7 +203,7 @@ fn record(alloc: Global, tree: Tree) -> Result<Record, Fail> {
 }
 
 // How many cells had a race, and how many trees differ.
-fn tried<L: Ledger>(alloc: Global, blank: Blank, trees: u32, seed: u64) -> Result<(usize, u32), Fail>
+fn tried<L: Ledger>(alloc: Global, blank: Blank, trees: u32, seed: u64) -> Result<(usize, u32), OutOfMemory>
     requires name { blank.name ≡ L.name }
     requires parts { blank.parts ≡ L.parts }
     requires some { 0 < L.parts }
