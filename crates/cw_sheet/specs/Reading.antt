@@ -52,11 +52,15 @@ newlines text = count_by is_newline text
 abbrev pub behind_lines : ℕ → Place → Place
 behind_lines n p = record { line = newlines (take n p.text) + p.line; text = drop n p.text }
 
+-- the most bytes of a source
+abbrev pub longest_source : ℕ
+longest_source = 1048576
+
 -- The source has n bytes. A fault of the source is on the line before it. If the text is shorter, its end is Unexpected.
 abbrev pub source_of_length : ℕ → (line : ℕ) → Place → Taken Source
 source_of_length n l p =
     if nat_lt (length p.text) n then refuse Unexpected (behind_lines (length p.text) p)
-    else canonical l (take n p.text) (reading 2 67108864 (take n p.text)) (behind_lines n p)
+    else canonical l (take n p.text) (reading 2 longest_source (take n p.text)) (behind_lines n p)
 
 -- `source BYTES`, then the source
 abbrev pub source : Place → Taken Source
