@@ -2,4 +2,5 @@ pub mod Contents
 pub mod SheetText
 pub mod Items
 pub mod Reading
+pub mod Laws
 pub mod Worked

@@ -6,11 +6,13 @@
 
 ghost use Rattle.cw_sheet.specs.Worked.{Cancels, EndFaults, NumberFaults, SourceFaults, Texts, TreeFaults};
 
+mod laws;
 mod nodes;
 mod parts;
 mod sheet;
 mod writing;
 
+pub use laws::{read_is_text, text_is_read};
 pub use sheet::{Sheet, SheetFault, SheetKind, SheetRefusal};
 pub use writing::sheet_text;
 

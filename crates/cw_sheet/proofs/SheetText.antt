@@ -1,0 +1,4 @@
+pub mod Beginning
+pub mod Naming
+pub mod Read
+pub mod Told
