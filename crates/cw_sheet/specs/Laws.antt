@@ -1,4 +1,4 @@
--- Laws of sheets: what is read is the text that it was read from, and a sheet that has a text is read from it.
+-- Laws of sheets: a text is the text of what it is read as, and the text of a sheet is read as that sheet.
 use Rattle.std.specs.Prelude.{◌≡◌, ℕ, ◌^◌, ◌<◌, ◌≤◌, All, IsTrue, List, length, ℤ, Result, Ok, ⊤}
 use Rattle.cw_text.specs.PrintedText.{printed_text}
 use Rattle.cw_text.specs.Syntax.{Source}
@@ -82,19 +82,18 @@ pub record IsInRange (c : Contents) : Type 0 where
   pub conflicts : IsCountable c.conflicts × All ConflictFits c.conflicts
   pub end : EndFits c.end
 
--- ## What is read
+-- ## The two laws
 
--- The contents have a text, and it is this one.
-pub record IsReadFrom (text : List ℕ) (c : Contents) : Type 0 where
+-- The contents have a text that can be read, and it is this one.
+pub record IsTextOf (text : List ℕ) (c : Contents) : Type 0 where
   pub has_text : HasText c
   pub range : IsInRange c
   pub spelled : sheet_text c ≡ text
+  pub short : length text ≤ 67108864
 
--- What a text is read as has a text, which is that text, and its numbers are in range.
+-- A text is the text of what it is read as.
 abbrev pub ReadIsText : Type 0
-ReadIsText = (text : List ℕ) (c : Contents) → sheet_reading text ≡ Ok c → IsReadFrom text c
-
--- ## What is written
+ReadIsText = (text : List ℕ) (c : Contents) → sheet_reading text ≡ Ok c → IsTextOf text c
 
 -- These contents were read, except for the lines in their source.
 abbrev pub IsSheetReadAs : Result Contents SheetFault → Contents → Type 0
@@ -102,6 +101,6 @@ IsSheetReadAs read c =
     (s : Source) × (read ≡ Ok (record c { source = s }))
     × (s.language ≡ c.source.language) × (tree_without_lines s.items ≡ tree_without_lines c.source.items)
 
--- A sheet that has a text is read from it, except for the lines in its source, if its numbers are in range and its text is not too long.
+-- The text of a sheet is read as that sheet, except for the lines in its source.
 abbrev pub TextIsRead : Type 0
-TextIsRead = (c : Contents) → HasText c → IsInRange c → length (sheet_text c) ≤ 67108864 → IsSheetReadAs (sheet_reading (sheet_text c)) c
+TextIsRead = (text : List ℕ) (c : Contents) → IsTextOf text c → IsSheetReadAs (sheet_reading text) c

@@ -11,7 +11,7 @@ use Rattle.cw_tree.specs.declared.node.Node.{Node}
 use Rattle.cw_tree.specs.Nodes.{parent_of}
 use Rattle.cw_sheet.specs.Contents.{Contents, HasLine, HasSourceText, HasText}
 use Rattle.cw_sheet.specs.Items.{Place, Taken, took, ◌into◌}
-use Rattle.cw_sheet.specs.Laws.{IsInRange, IsValue, NodeFits, TextIsRead}
+use Rattle.cw_sheet.specs.Laws.{IsInRange, IsSheetReadAs, IsValue, NodeFits, TextIsRead}
 use Rattle.cw_sheet.specs.Reading.{behind_source, conflicts, contents_from, heading, judged_sheet, last, limits, misplaced, nodes, run_end, sheet_reading, source, values, with_tree}
 use Rattle.cw_sheet.specs.SheetText.{after_source, before_source, conflicts_part, decimals, end_part, first_line, last_line, limits_line, line, nodes_part, sheet_text, words_line}
 use Rattle.cw_sheet.proofs.SheetText.Told.Items.{AllFrom}
@@ -104,9 +104,14 @@ judged_reads r c h well = ap judged_sheet h.is ∙ ap (λ o. with_tree h.nodes_l
 reading_is : (text : List ℕ) (c : Contents) → length text ≤ 67108864 → IsUtf8 text → judged_sheet (contents_from (on_line 1 text)) ≡ Ok c → sheet_reading text ≡ Ok c
 reading_is text c short whole h = rw (le-ltb 67108864 (length text) short, utf8_valid_len-IsUtf8 text whole, le-ltb (length text) (length text) (le_refl (length text))) h
 
-pub text_is_read : TextIsRead
-text_is_read c has range short =
+own_text_is_read : (c : Contents) → HasText c → IsInRange c → length (sheet_text c) ≤ 67108864 → IsSheetReadAs (sheet_reading (sheet_text c)) c
+own_text_is_read c has range short =
     let h = text_reads c has range in
     let d : Contents = record c { source = h.0 } in
     let judged = judged_reads (contents_from (on_line 1 (sheet_text c))) d h.1 (tree_placed c.tree has.tree) in
     (h.0, reading_is (sheet_text c) d short (text_is_utf8 c has.source range) judged, h.2.language, h.2.tree)
+
+pub text_is_read : TextIsRead
+text_is_read text c h =
+    subst (λ t. IsSheetReadAs (sheet_reading t) c) h.spelled
+    (own_text_is_read c h.has_text h.range (subst (λ t. length t ≤ 67108864) (sym h.spelled) h.short))

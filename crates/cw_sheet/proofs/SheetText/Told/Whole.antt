@@ -1,6 +1,6 @@
 -- What is read has a text, and was read from it.
 use Rattle.std.proofs.Common.{◌≡◌, ℕ, suc, ◌≤◌, Bool, true, nat_lt, List, [], ◌∷◌, ◌++◌, codes, length, Option, Some, None, Result, Ok, Err, refl, ap, sym, subst, ◌∙◌, IsTrue, All}
-use Rattle.std.proofs.lemmas.Bool.{cond_both}
+use Rattle.std.proofs.lemmas.Bool.{cond_both, ltb-false}
 use Rattle.std.proofs.lemmas.List.Elements.{All-cons, All-from_recursion, All-nil}
 use Rattle.std.specs.Str.Lossy.{utf8_valid_len}
 use Rattle.cw_text.specs.PrintedText.{printed_text}
@@ -9,7 +9,7 @@ use Rattle.cw_tree.specs.declared.node.Node.{Node}
 use Rattle.cw_tree.specs.Nodes.{is_strand, parent_of}
 use Rattle.cw_sheet.specs.Contents.{Contents, HasLine, HasSourceText, HasText}
 use Rattle.cw_sheet.specs.Items.{Place, Taken, took, refused}
-use Rattle.cw_sheet.specs.Laws.{ConflictFits, IsInRange, IsReadFrom, IsValue, NodeFits, ReadIsText}
+use Rattle.cw_sheet.specs.Laws.{ConflictFits, IsInRange, IsTextOf, IsValue, NodeFits, ReadIsText}
 use Rattle.cw_sheet.specs.Reading.{behind_source, conflicts, contents_from, heading, judged_sheet, last, limits, longest_source, misplaced, nodes, run_end, source, values, with_tree}
 use Rattle.cw_sheet.specs.SheetText.{after_source, before_source, conflicts_part, decimals, end_part, first_line, last_line, limits_line, line, nodes_part, sheet_text, words_line}
 use Rattle.cw_sheet.proofs.SheetText.Beginning.{BeginsWith, one_more}
@@ -76,25 +76,26 @@ root_told : (xs : List Node) → AllFrom IsReadable 0 xs → IsTrue (is_strand x
 root_told [] h strand = refl
 root_told (x ∷ xs) h strand = h.0.fit.root refl strand
 
-is_read_from : (text : List ℕ) (c : Contents) → IsTold text c → misplaced c.tree ≡ None → IsReadFrom text c
-is_read_from text c h well =
+is_text_of : (text : List ℕ) (c : Contents) → length text ≤ 67108864 → IsTold text c → misplaced c.tree ≡ None → IsTextOf text c
+is_text_of text c short h well =
     let tree = tree_told c.tree well in
     record {
       has_text = record { source = h.source; tree = tree; root = root_told c.tree h.nodes tree.root; lines = all_from HasLine 0 c.tree (λ j x read. read.fit.line) h.nodes };
       range = h.range;
       spelled = sym h.spelled;
+      short = short;
     }
 
-tree_judged : (text : List ℕ) (l : ℕ) (c d : Contents) (o : Option ℕ) → misplaced c.tree ≡ o → IsTold text c → with_tree l o c ≡ Ok d → IsReadFrom text d
-tree_judged text l c d None well h e = let same : c ≡ d = cc in subst (λ x. IsReadFrom text x) same (is_read_from text c h well)
-tree_judged text l c d (Some k) well h e = cc
+tree_judged : (text : List ℕ) (l : ℕ) (c d : Contents) (o : Option ℕ) → length text ≤ 67108864 → misplaced c.tree ≡ o → IsTold text c → with_tree l o c ≡ Ok d → IsTextOf text d
+tree_judged text l c d None short well h e = let same : c ≡ d = cc in subst (λ x. IsTextOf text x) same (is_text_of text c short h well)
+tree_judged text l c d (Some k) short well h e = cc
 
-sheet_judged : (text : List ℕ) (r : Taken (Contents × ℕ)) (d : Contents) → IfTook (λ c q. IsTold text c.0) r → judged_sheet r ≡ Ok d → IsReadFrom text d
-sheet_judged text (took c q) d h e = tree_judged text c.1 c.0 d (misplaced c.0.tree) refl h e
-sheet_judged text (refused f) d h e = cc
+sheet_judged : (text : List ℕ) (r : Taken (Contents × ℕ)) (d : Contents) → length text ≤ 67108864 → IfTook (λ c q. IsTold text c.0) r → judged_sheet r ≡ Ok d → IsTextOf text d
+sheet_judged text (took c q) d short h e = tree_judged text c.1 c.0 d (misplaced c.0.tree) short refl h e
+sheet_judged text (refused f) d short h e = cc
 
 pub read_is_text : ReadIsText
 read_is_text text c =
-    cond_both (nat_lt 67108864 (length text)) _ _ (λ r. r ≡ Ok c → IsReadFrom text c) (λ _ e. cc)
-    (λ _. cond_both (nat_lt (utf8_valid_len text) (length text)) _ _ (λ r. r ≡ Ok c → IsReadFrom text c) (λ _ e. cc)
-    (λ _ e. sheet_judged text (contents_from (record { line = 1; text = text })) c (contents_told (record { line = 1; text = text })) e))
+    cond_both (nat_lt 67108864 (length text)) _ _ (λ r. r ≡ Ok c → IsTextOf text c) (λ _ e. cc)
+    (λ short. cond_both (nat_lt (utf8_valid_len text) (length text)) _ _ (λ r. r ≡ Ok c → IsTextOf text c) (λ _ e. cc)
+    (λ _ e. sheet_judged text (contents_from (record { line = 1; text = text })) c (ltb-false 67108864 (length text) short) (contents_told (record { line = 1; text = text })) e))
