@@ -1,7 +1,7 @@
 //! Record sheets: a whole run as a text. Use it to write a run down for a stranger who judges it without running anything.
 //! Contracts cite `specs/Contents.antt` (what a sheet says, and which sheets have a text) and `specs/SheetText.antt` (the
 //! text). `specs/Reading.antt` is what a text says as a sheet, otherwise its first fault, over `specs/Items.antt` (words and
-//! numbers). `specs/Worked.antt` tries them on examples.
+//! numbers). `specs/Laws.antt` says that reading and writing undo each other. `specs/Worked.antt` tries them on examples.
 #![tactic(auto)]
 
 ghost use Rattle.cw_sheet.specs.Worked.{Cancels, EndFaults, NumberFaults, SourceFaults, Texts, TreeFaults};

@@ -4,12 +4,12 @@ use Rattle.std.proofs.lemmas.List.{length-map}
 use Rattle.std.specs.Str.{bytes_eq}
 use Rattle.cw_text.specs.declared.ast.Word.{Word}
 use Rattle.cw_text.specs.Syntax.{Term, Terms, number, name, at, call, unary, binary, none, more, Statement, Block, empty, first, Declaration, declare, assign, assign_at, run, out, choose, repeat, atomic, spawn, sync, cancel, return, cell, func}
-use Rattle.cw_text.specs.WithoutLines.{word_without_line, term_without_lines, terms_without_lines, statement_without_lines, block_without_lines, declaration_without_lines, tree_without_lines}
+use Rattle.cw_text.specs.WithoutLines.{word_without_line, term_without_lines, terms_without_lines, statement_without_lines, block_without_lines, tree_without_lines}
 use Rattle.cw_strand.specs.declared.naming.NameKind.{NameKind}
 use Rattle.cw_strand.specs.declared.naming.NameKind.TheVariants as kind
 use Rattle.cw_strand.specs.declared.naming.Around.{Around}
 use Rattle.cw_strand.specs.declared.naming.Around.TheVariants as around
-use Rattle.cw_strand.specs.Names.{Thing, a_local, a_cell, an_array, a_function, Scope, find, Fault, fault, ◌then◌, used, indexed, fault_of_call, declared_new, returned_from, cancelled_in, count_of, in_term, in_terms, scope_after, in_statement, in_block, in_params, scope_with_params, elements, cell_thing, globals, in_items, in_functions, main_from, main_of, without_main, naming_fault}
+use Rattle.cw_strand.specs.Names.{Thing, a_local, an_array, a_function, Scope, find, Fault, fault, ◌then◌, used, indexed, fault_of_call, declared_new, returned_from, cancelled_in, count_of, in_term, in_terms, scope_after, in_statement, in_block, in_params, scope_with_params, elements, cell_thing, globals, in_items, in_functions, main_from, without_main, naming_fault}
 
 -- both are faults, or neither
 record Alike (f g : Fault) : Type 0 where
@@ -139,7 +139,7 @@ items_alike g n (cell x l len z ∷ ds) =
 items_alike g n (func x l ps b ∷ ds) =
     then_alike (record { is = declared_alike (find x g) 1 l })
     (subst (λ k. Alike (in_items ((x, a_function k) ∷ g) n (tree_without_lines ds)) (in_items ((x, a_function (length ps)) ∷ g) n ds)) (sym (same_length ps))
-        (items_alike ((x, a_function (length ps)) ∷ g) n ds))
+    (items_alike ((x, a_function (length ps)) ∷ g) n ds))
 
 functions_alike : (g : Scope) (ds : List Declaration) → Alike (in_functions g (tree_without_lines ds)) (in_functions g ds)
 functions_alike g [] = itself None
@@ -147,9 +147,9 @@ functions_alike g (cell x l len z ∷ ds) = functions_alike g ds
 functions_alike g (func x l ps b ∷ ds) =
     then_alike (params_alike g ps)
     (then_alike
-        (subst (λ h. Alike (in_block h around.Neither (block_without_lines b)) (in_block (scope_with_params g ps) around.Neither b)) (sym (same_params g ps))
-            (block_alike (scope_with_params g ps) around.Neither b))
-        (functions_alike g ds))
+    (subst (λ h. Alike (in_block h around.Neither (block_without_lines b)) (in_block (scope_with_params g ps) around.Neither b)) (sym (same_params g ps))
+    (block_alike (scope_with_params g ps) around.Neither b))
+    (functions_alike g ds))
 
 same_main : (n : ℕ) (ds : List Declaration) → main_from n (tree_without_lines ds) ≡ main_from n ds
 same_main n [] = refl
@@ -160,8 +160,8 @@ naming_alike : (ds : List Declaration) → Alike (naming_fault (tree_without_lin
 naming_alike ds =
     then_alike (items_alike [] 0 ds)
     (then_alike
-        (subst (λ g. Alike (in_functions g (tree_without_lines ds)) (in_functions (globals ds) ds)) (sym (same_globals ds)) (functions_alike (globals ds) ds))
-        (record { is = ap (λ o. is_none (without_main o)) (same_main 0 ds) }))
+    (subst (λ g. Alike (in_functions g (tree_without_lines ds)) (in_functions (globals ds) ds)) (sym (same_globals ds)) (functions_alike (globals ds) ds))
+    (record { is = ap (λ o. is_none (without_main o)) (same_main 0 ds) }))
 
 pub named_alike : (ds es : List Declaration) → tree_without_lines ds ≡ tree_without_lines es → is_none (naming_fault ds) ≡ is_none (naming_fault es)
 named_alike ds es same = sym (naming_alike ds).is ∙ ap (λ fs. is_none (naming_fault fs)) same ∙ (naming_alike es).is

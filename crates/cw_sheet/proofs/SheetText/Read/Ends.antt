@@ -1,25 +1,24 @@
 -- Nodes, conflicts and the end are taken as what they spell.
-use Rattle.std.proofs.Common.{◌≡◌, ℕ, suc, ◌^◌, ◌<◌, ◌≤◌, Bool, true, List, [], ◌∷◌, ◌++◌, codes, length, map, ℤ, refl, ap, sym, subst, ◌∙◌, append_assoc, arith, All}
+use Rattle.std.proofs.Common.{◌≡◌, ℕ, suc, ◌^◌, ◌<◌, List, [], ◌∷◌, ◌++◌, codes, length, ℤ, refl, sym, subst, ◌∙◌, append_assoc, arith, All}
 use Rattle.std.proofs.lemmas.List.Elements.{recursion_from_All}
-use Rattle.std.specs.Fmt.{decimal, signed_decimal}
+use Rattle.std.specs.Fmt.{decimal}
 use Rattle.std.specs.List.{AllByRecursion, flat_map}
-use Rattle.std.specs.Prelude.{⊤}
 use Rattle.cw_code.specs.declared.FaultKind.{FaultKind}
 use Rattle.cw_code.specs.declared.FaultKind.TheVariants as fault
 use Rattle.cw_tree.specs.declared.conflict.Conflict.{Conflict}
 use Rattle.cw_tree.specs.declared.node.Node.{Node}
 use Rattle.cw_record.specs.declared.record_end.RecordEnd.{RecordEnd}
 use Rattle.cw_record.specs.declared.record_end.RecordEnd.TheVariants.{Finished, Fault, Budget, Moves}
-use Rattle.cw_sheet.specs.Items.{Place, Taken, took, ◌into◌, all_behind, count, exactly, line_done, newline, next_item, number, number64, word}
+use Rattle.cw_sheet.specs.Items.{Place, Taken, ◌into◌, count, exactly, line_done, next_item, number64}
 use Rattle.cw_sheet.specs.Laws.{ConflictFits, EndFits, Fits64, IsCountable, IsValue}
-use Rattle.cw_sheet.specs.Reading.{conflict_row, conflicts, fault_kinds, fault_named, finished, named_fault, node, nodes, run_end, values}
-use Rattle.cw_sheet.specs.SheetText.{conflict_line, conflicts_part, decimals, end_part, fault_line, fault_word, line, node_line, nodes_part, signed_decimals}
+use Rattle.cw_sheet.specs.Reading.{conflict_row, conflicts, fault_kinds, fault_named, named_fault, node, nodes, run_end}
+use Rattle.cw_sheet.specs.SheetText.{conflict_line, conflicts_part, decimals, end_part, fault_word, line, node_line, nodes_part, signed_decimals}
 use Rattle.cw_sheet.proofs.SheetText.Told.Items.{AllFrom}
 use Rattle.cw_sheet.proofs.SheetText.Read.Items.{all_behind_takes, exactly_takes, first_number_takes, number_takes}
 use Rattle.cw_sheet.proofs.SheetText.Read.Lines.{number32_takes, number64_takes, values_takes}
 use Rattle.cw_sheet.proofs.SheetText.Read.Nodes.{node_takes}
 use Rattle.cw_sheet.proofs.SheetText.Told.Nodes.{IsReadable}
-use Rattle.cw_sheet.proofs.SheetText.Read.Taking.{Takes, on_line, ends_there, line_spelled, spell, then_takes}
+use Rattle.cw_sheet.proofs.SheetText.Read.Taking.{Takes, on_line, ends_there, line_spelled, line_takes, spell, then_takes}
 
 -- behind the first word of a line `word COUNT`, and as many lines behind it
 counted_takes : {A : Type 0} (t : A → List ℕ) (P : ℕ → A → Type 0) (each : ℕ → Place → Taken A) →
@@ -28,8 +27,8 @@ counted_takes : {A : Type 0} (t : A → List ℕ) (P : ℕ → A → Type 0) (ea
     Takes (count (on_line l (spell (decimals (length xs ∷ [])) (10 ∷ (flat_map t xs ++ rest)))) into λ n p. line_done n p into λ n p. exactly n 0 each p) xs rest
 counted_takes t P each takes xs l rest few all =
     let lines = flat_map t xs ++ rest in
-    then_takes (length xs) xs (10 ∷ lines) rest (count (on_line l ((32 ∷ decimal (length xs)) ++ (10 ∷ lines)))) (λ n p. line_done n p into λ n p. exactly n 0 each p)
-        (number_takes 100000001 (length xs) l (10 ∷ lines) (omega arith) (omega arith) refl)
+    then_takes _ _
+    (number_takes 100000001 (length xs) l (10 ∷ lines) (omega arith) (omega arith) refl)
     (λ l1. exactly_takes t P each takes xs 0 (suc l1) rest all)
 
 -- a counted part is its line, and its lines
@@ -52,15 +51,15 @@ conflict_takes x l rest fit =
     let two = spell (decimals (x.asker ∷ x.block ∷ x.victim ∷ x.attempt ∷ x.chain)) (10 ∷ rest) in
     let one = spell (decimals (x.last ∷ x.asker ∷ x.block ∷ x.victim ∷ x.attempt ∷ x.chain)) (10 ∷ rest) in
     let cell : x.cell < 2 ^ 32 = fit.cell in
-    subst (λ s. Takes (conflict_row (on_line l s)) x rest) (sym (line_spelled (decimal x.cell) (decimals (x.last ∷ x.asker ∷ x.block ∷ x.victim ∷ x.attempt ∷ x.chain)) rest))
-    (then_takes _ _ _ _ _ _ (first_number_takes (2 ^ 32) x.cell l one fit.cell (omega arith) refl)
-    (λ l0. then_takes _ _ _ _ _ _ (number64_takes x.last l0 two fit.last refl)
-    (λ l1. then_takes _ _ _ _ _ _ (number32_takes x.asker l1 three fit.asker refl)
-    (λ l2. then_takes _ _ _ _ _ _ (number64_takes x.block l2 four fit.block refl)
-    (λ l3. then_takes _ _ _ _ _ _ (number64_takes x.victim l3 five fit.victim refl)
-    (λ l4. then_takes _ _ _ _ _ _ (number32_takes x.attempt l4 chain fit.attempt (ends_there (decimals x.chain) rest))
-    (λ l5. then_takes _ _ _ _ _ _
-        (all_behind_takes (λ n. decimal n) Fits64 number64 (λ n l rest small ends. number64_takes n l rest small ends) x.chain l5 rest (recursion_from_All Fits64 x.chain fit.chain))
+    line_takes conflict_row (decimal x.cell) (decimals (x.last ∷ x.asker ∷ x.block ∷ x.victim ∷ x.attempt ∷ x.chain)) l rest
+    (then_takes _ _ (first_number_takes (2 ^ 32) x.cell l one fit.cell (omega arith) refl)
+    (λ l0. then_takes _ _ (number64_takes x.last l0 two fit.last refl)
+    (λ l1. then_takes _ _ (number32_takes x.asker l1 three fit.asker refl)
+    (λ l2. then_takes _ _ (number64_takes x.block l2 four fit.block refl)
+    (λ l3. then_takes _ _ (number64_takes x.victim l3 five fit.victim refl)
+    (λ l4. then_takes _ _ (number32_takes x.attempt l4 chain fit.attempt (ends_there (decimals x.chain) rest))
+    (λ l5. then_takes _ _
+    (all_behind_takes (λ n. decimal n) Fits64 number64 (λ n l rest small ends. number64_takes n l rest small ends) x.chain l5 rest (recursion_from_All Fits64 x.chain fit.chain))
     (λ l6. record { line = suc l6; is = refl }))))))))
 
 all_conflicts : (k : ℕ) (xs : List Conflict) → AllByRecursion ConflictFits xs → AllFrom (λ _ x. ConflictFits x) k xs
@@ -71,7 +70,7 @@ pub conflicts_take : (xs : List Conflict) (l : ℕ) (rest : List ℕ) → IsCoun
 conflicts_take xs l rest few all =
     subst (λ s. Takes (conflicts (on_line l s)) xs rest) (sym (part_spelled (codes "conflicts") (length xs) (flat_map conflict_line xs) rest))
     (counted_takes conflict_line (λ _ x. ConflictFits x) (λ k q. conflict_row q) (λ k x l rest fit. conflict_takes x l rest fit) xs l rest few
-        (all_conflicts 0 xs (recursion_from_All ConflictFits xs all)))
+    (all_conflicts 0 xs (recursion_from_All ConflictFits xs all)))
 
 -- ## The end
 
@@ -92,18 +91,18 @@ finished_takes memory outputs l rest small few =
     let o = line (codes "outputs") (signed_decimals outputs) in
     let f = line (codes "finished") [] in
     subst (λ s. Takes (run_end (on_line l s)) end rest) (sym (append_assoc (f ++ m) o rest ∙ append_assoc f m (o ++ rest)))
-    (then_takes memory end (o ++ rest) rest (values (codes "memory") (on_line (suc l) (m ++ (o ++ rest)))) (λ memory p. values (codes "outputs") p into λ outputs p. took (Finished memory outputs) p)
-        (values_takes (codes "memory") memory (suc l) (o ++ rest) refl (recursion_from_All IsValue memory small))
-    (λ l1. then_takes outputs end rest rest (values (codes "outputs") (on_line l1 (o ++ rest))) (λ outputs p. took (Finished memory outputs) p)
-        (values_takes (codes "outputs") outputs l1 rest refl (recursion_from_All IsValue outputs few))
+    (then_takes _ _
+    (values_takes (codes "memory") memory (suc l) (o ++ rest) refl (recursion_from_All IsValue memory small))
+    (λ l1. then_takes _ _
+    (values_takes (codes "outputs") outputs l1 rest refl (recursion_from_All IsValue outputs few))
     (λ l2. record { line = l2; is = refl })))
 
 pub end_takes : (e : RecordEnd) (l : ℕ) (rest : List ℕ) → EndFits e → Takes (run_end (on_line l (end_part e ++ rest))) e rest
 end_takes (Finished memory outputs) l rest fit = finished_takes memory outputs l rest fit.0 fit.1
 end_takes (Fault s k) l rest fit =
-    subst (λ t. Takes (run_end (on_line l t)) (Fault s k) rest) (sym (line_spelled (codes "fault") (decimal s ∷ fault_word k ∷ []) rest))
-    (then_takes _ _ _ _ _ _ (number32_takes s l ((32 ∷ fault_word k) ++ (10 ∷ rest)) fit refl) (λ l1. fault_takes s k l1 rest))
+    line_takes run_end (codes "fault") (decimal s ∷ fault_word k ∷ []) l rest
+    (then_takes _ _ (number32_takes s l ((32 ∷ fault_word k) ++ (10 ∷ rest)) fit refl) (λ l1. fault_takes s k l1 rest))
 end_takes (Budget s) l rest fit =
-    subst (λ t. Takes (run_end (on_line l t)) (Budget s) rest) (sym (line_spelled (codes "budget") (decimal s ∷ []) rest))
-    (then_takes _ _ _ _ _ _ (number32_takes s l (10 ∷ rest) fit refl) (λ l1. record { line = suc l1; is = refl }))
+    line_takes run_end (codes "budget") (decimal s ∷ []) l rest
+    (then_takes _ _ (number32_takes s l (10 ∷ rest) fit refl) (λ l1. record { line = suc l1; is = refl }))
 end_takes Moves l rest fit = record { line = suc l; is = refl }

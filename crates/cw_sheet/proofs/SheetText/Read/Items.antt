@@ -1,6 +1,6 @@
 -- An item is taken as what it spells.
 use Rattle.std.proofs.Common.{◌≡◌, ℕ, zero, suc, ◌==◌, ◌^◌, ◌<◌, ◌≤◌, ◌&&◌, ◌||◌, Bool, true, false, not, cond, nat_lt, if◌then◌else◌, List, [], ◌∷◌, ◌++◌, length, map, drop, ℤ, pos, negsuc, neg_ℤ, refl, ap, sym, subst, ◌∙◌, append_assoc, arith, rules}
-use Rattle.std.proofs.lemmas.Bool.{and_from, and_parts, lt-ltb, ltb-true, or_left, or_right}
+use Rattle.std.proofs.lemmas.Bool.{and_from, and_parts, lt-ltb, ltb-true, or_left}
 use Rattle.std.proofs.lemmas.Bool.Decides.{nat_tests}
 use Rattle.std.proofs.lemmas.Fmt.{decimal_nonempty, digits_decimal, digits_value-decimal}
 use Rattle.std.proofs.lemmas.List.Sums.{take_while-cons}
@@ -14,7 +14,7 @@ use Rattle.std.specs.Str.{bytes_eq}
 use Rattle.cw_text.proofs.Digits.{value_on}
 use Rattle.cw_text.specs.Lexemes.{begins_by, value_of_digits}
 use Rattle.cw_sheet.specs.declared.sheet.SheetKind.TheVariants.{Unexpected, BadNumber}
-use Rattle.cw_sheet.specs.Items.{Place, Taken, took, ◌into◌, all_behind, are_digits, behind, exactly, first_item, first_number, first_value, is_i64, is_newline, is_numeral, is_space, judged, number, refuse, up_to, value, value_of_numeral, word}
+use Rattle.cw_sheet.specs.Items.{Place, Taken, took, all_behind, are_digits, behind, exactly, first_item, first_number, is_i64, is_newline, is_numeral, is_space, judged, number, refuse, up_to, value, value_of_numeral, word}
 use Rattle.cw_sheet.proofs.SheetText.Beginning.{drop_front}
 use Rattle.cw_sheet.proofs.SheetText.Told.Items.{AllFrom}
 use Rattle.cw_sheet.proofs.SheetText.Read.Taking.{Takes, on_line, ends_there, long_enough, spell, takes_if, then_takes}
@@ -89,10 +89,10 @@ first_number_takes limit n l rest low small ends =
     let same = item_before (decimal n) rest (digits_are_item_bytes (decimal n) (decimal_digits n small)) ends in
     let at_item = λ (i : List ℕ) (v : ℕ). Takes (judged i (nat_lt v limit && bytes_eq i (decimal v)) v (behind (length i) (on_line l text))) n rest in
     let there : at_item (decimal n) n =
-        judged_takes (decimal n) (nat_lt n limit && bytes_eq (decimal n) (decimal n)) n (behind (length (decimal n)) (on_line l text)) rest
-            (or_left (are_digits (decimal n)) _ (decimal_are_digits n small))
-            (and_from (nat_lt n limit) (bytes_eq (decimal n) (decimal n)) (lt-ltb n limit low) ((bytes_decides (decimal n) (decimal n)).1 refl))
-            (drop_front (decimal n) rest) in
+    judged_takes (decimal n) (nat_lt n limit && bytes_eq (decimal n) (decimal n)) n (behind (length (decimal n)) (on_line l text)) rest
+    (or_left (are_digits (decimal n)) _ (decimal_are_digits n small))
+    (and_from (nat_lt n limit) (bytes_eq (decimal n) (decimal n)) (lt-ltb n limit low) ((bytes_decides (decimal n) (decimal n)).1 refl))
+    (drop_front (decimal n) rest) in
     subst (λ i. at_item i (value_of_digits i)) (sym same) (subst (λ v. at_item (decimal n) v) (sym (decimal_value n small)) there)
 
 pub number_takes : (limit n l : ℕ) (rest : List ℕ) → n < limit → n < 2 ^ 64 → first_item rest ≡ [] → Takes (number limit (on_line l ((32 ∷ decimal n) ++ rest))) n rest
@@ -127,26 +127,25 @@ value_takes z l rest small ends =
     let same = item_before i rest (signed_item z small) ends in
     let at_item = λ (j : List ℕ) (v : ℤ). Takes (judged j (is_i64 v && bytes_eq j (signed_decimal v)) v (behind (length j) (on_line l text))) z rest in
     let there : at_item i z =
-        judged_takes i (is_i64 z && bytes_eq i (signed_decimal z)) z (behind (length i) (on_line l text)) rest (signed_numeral z small)
-            (and_from (is_i64 z) (bytes_eq i (signed_decimal z)) small ((bytes_decides i i).1 refl))
-            (drop_front i rest) in
+    judged_takes i (is_i64 z && bytes_eq i (signed_decimal z)) z (behind (length i) (on_line l text)) rest (signed_numeral z small)
+    (and_from (is_i64 z) (bytes_eq i (signed_decimal z)) small ((bytes_decides i i).1 refl))
+    (drop_front i rest) in
     subst (λ j. at_item j (value_of_numeral j)) (sym same) (subst (λ v. at_item i v) (sym (signed_value z small)) there)
 
 -- ## Several of a kind
 
 module _ {A : Type 0} (w : A → List ℕ) (P : A → Type 0) (each : Place → Taken A)
     (takes : (x : A) (l : ℕ) (rest : List ℕ) → P x → first_item rest ≡ [] → Takes (each (on_line l ((32 ∷ w x) ++ rest))) x rest) where
-
   up_to_takes : (xs : List A) (most l : ℕ) (rest : List ℕ) → AllByRecursion P xs → length xs ≤ most → Takes (up_to most each (on_line l (spell (map w xs) (10 ∷ rest)))) xs (10 ∷ rest)
   up_to_takes [] zero l rest all few = record { line = l; is = refl }
   up_to_takes [] (suc most) l rest all few = record { line = l; is = refl }
   up_to_takes (x ∷ xs) zero l rest all few = absurd (omega arith)
   up_to_takes (x ∷ xs) (suc most) l rest all few =
       let left = spell (map w xs) (10 ∷ rest) in
-      then_takes x (x ∷ xs) left (10 ∷ rest) (each (on_line l ((32 ∷ w x) ++ left))) (λ x q. up_to most each q into λ xs r. took (x ∷ xs) r)
-          (takes x l left all.0 (ends_there (map w xs) rest))
-          (λ m. then_takes xs (x ∷ xs) (10 ∷ rest) (10 ∷ rest) (up_to most each (on_line m left)) (λ xs r. took (x ∷ xs) r)
-              (up_to_takes xs most m rest all.1 (omega arith)) (λ n. record { line = n; is = refl }))
+      then_takes _ _
+      (takes x l left all.0 (ends_there (map w xs) rest))
+      (λ m. then_takes _ _
+      (up_to_takes xs most m rest all.1 (omega arith)) (λ n. record { line = n; is = refl }))
 
   pub all_behind_takes : (xs : List A) (l : ℕ) (rest : List ℕ) → AllByRecursion P xs → Takes (all_behind each (on_line l (spell (map w xs) (10 ∷ rest)))) xs (10 ∷ rest)
   all_behind_takes xs l rest all =
@@ -159,7 +158,7 @@ exactly_takes t P each takes [] k l rest all = record { line = l; is = refl }
 exactly_takes t P each takes (x ∷ xs) k l rest all =
     let left = flat_map t xs ++ rest in
     subst (λ s. Takes (exactly (suc (length xs)) k each (on_line l s)) (x ∷ xs) rest) (sym (append_assoc (t x) (flat_map t xs) rest))
-    (then_takes x (x ∷ xs) left rest (each k (on_line l (t x ++ left))) (λ x q. exactly (length xs) (suc k) each q into λ xs r. took (x ∷ xs) r)
-        (takes k x l left all.0)
-        (λ m. then_takes xs (x ∷ xs) rest rest (exactly (length xs) (suc k) each (on_line m left)) (λ xs r. took (x ∷ xs) r)
-            (exactly_takes t P each takes xs (suc k) m rest all.1) (λ n. record { line = n; is = refl })))
+    (then_takes _ _
+    (takes k x l left all.0)
+    (λ m. then_takes _ _
+    (exactly_takes t P each takes xs (suc k) m rest all.1) (λ n. record { line = n; is = refl })))

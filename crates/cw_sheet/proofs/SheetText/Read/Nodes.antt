@@ -1,24 +1,22 @@
 -- A node is taken as what its line spells.
-use Rattle.std.proofs.Common.{◌≡◌, ℕ, zero, suc, ◌==◌, ◌^◌, ◌<◌, ◌≤◌, ◌&&◌, Bool, true, false, not, List, [], ◌∷◌, ◌++◌, codes, length, map, ℤ, refl, ap, sym, subst, subst₂, ◌∙◌, append_assoc, arith, All, if◌then◌else◌}
+use Rattle.std.proofs.Common.{◌≡◌, ℕ, zero, suc, ◌==◌, ◌^◌, ◌<◌, ◌&&◌, false, not, List, [], ◌∷◌, ◌++◌, codes, length, map, ℤ, refl, ap, sym, subst, subst₂, ◌∙◌, append_assoc, arith, All}
 use Rattle.std.proofs.lemmas.Bool.{and_left, eq-eqb, ne_eqb}
 use Rattle.std.proofs.lemmas.List.Elements.{recursion_from_All}
 use Rattle.std.specs.Fmt.{decimal, signed_decimal}
-use Rattle.std.specs.List.{AllByRecursion, flat_map}
 use Rattle.cw_code.specs.declared.Back.{Back}
 use Rattle.cw_tree.specs.declared.node.Node.{Node}
 use Rattle.cw_tree.specs.declared.node.Kind.{Kind}
 use Rattle.cw_tree.specs.declared.node.Kind.TheVariants.{Strand, Fork, Block, Read, Write, Out, Tried, Cancel}
 use Rattle.cw_tree.specs.declared.node.BlockState.{BlockState}
 use Rattle.cw_tree.specs.declared.node.BlockState.TheVariants.{Pending, Committed, Aborted}
-use Rattle.cw_sheet.specs.declared.sheet.SheetKind.TheVariants.{Unexpected}
-use Rattle.cw_sheet.specs.Items.{Place, Taken, took, all_behind, count, first_item, line_done, number, number32, number64, refuse, value}
-use Rattle.cw_sheet.specs.Laws.{BackFits, IsCountable, IsValue, KindFits, NodeFits}
-use Rattle.cw_sheet.specs.Reading.{access_node, back, node, other_node, state}
-use Rattle.cw_sheet.specs.SheetText.{access_line, back_items, kind_line, line, node_line, state_word}
+use Rattle.cw_sheet.specs.Items.{Taken, all_behind, first_item}
+use Rattle.cw_sheet.specs.Laws.{BackFits, IsCountable, IsValue, KindFits}
+use Rattle.cw_sheet.specs.Reading.{access_node, back, block_node, cancel_node, fork_node, node, other_node, out_node, state, strand_node, tried_node}
+use Rattle.cw_sheet.specs.SheetText.{back_items, kind_line, node_line, state_word}
 use Rattle.cw_sheet.proofs.SheetText.Told.Nodes.{IsFit, IsReadable}
 use Rattle.cw_sheet.proofs.SheetText.Read.Items.{all_behind_takes, number_takes, value_takes}
 use Rattle.cw_sheet.proofs.SheetText.Read.Lines.{number32_takes, number64_takes}
-use Rattle.cw_sheet.proofs.SheetText.Read.Taking.{Takes, on_line, ends_there, line_spelled, spell, takes_if, takes_unless, then_takes}
+use Rattle.cw_sheet.proofs.SheetText.Read.Taking.{Takes, on_line, ends_there, line_takes, spell, takes_if, takes_unless, then_takes}
 
 -- ## Parts of lines
 
@@ -35,8 +33,8 @@ back_takes : (b : Back) (l : ℕ) (rest : List ℕ) → BackFits b → first_ite
 back_takes b l rest fit ends =
     let behind = (32 ∷ signed_decimal b.value) ++ rest in
     subst (λ s. Takes (back (on_line l s)) b rest) (sym (append_assoc (32 ∷ decimal b.cell) (32 ∷ signed_decimal b.value) rest))
-    (then_takes _ _ _ _ _ _ (number32_takes b.cell l behind fit.cell refl)
-    (λ l1. then_takes _ _ _ _ _ _ (value_takes b.value l1 rest fit.value ends)
+    (then_takes _ _ (number32_takes b.cell l behind fit.cell refl)
+    (λ l1. then_takes _ _ (value_takes b.value l1 rest fit.value ends)
     (λ l2. record { line = l2; is = refl })))
 
 backs_spelled : (bs : List Back) (rest : List ℕ) → spell (back_items bs) rest ≡ spell (map back_pair bs) rest
@@ -61,69 +59,61 @@ root_free zero parent first = ap (λ n. not (n == 0)) (first refl)
 root_free (suc k) parent first = and_left (suc k == 0) (not (parent == 0)) (ne_eqb (suc k) 0 (λ e. omega arith))
 
 strand_takes : (k parent l : ℕ) (rest : List ℕ) → parent < 2 ^ 32 → (k ≡ 0 → parent ≡ 0) →
-    Takes (node k (on_line l (line (codes "strand") (decimal parent ∷ []) ++ rest))) (other_node parent Strand 0) rest
+    Takes (strand_node k (on_line l (spell (decimal parent ∷ []) (10 ∷ rest)))) (other_node parent Strand 0) rest
 strand_takes k parent l rest low first =
-    subst (λ s. Takes (node k (on_line l s)) (other_node parent Strand 0) rest) (sym (line_spelled (codes "strand") (decimal parent ∷ []) rest))
-    (then_takes _ _ _ _ _ _ (number32_takes parent l (10 ∷ rest) low refl)
-    (λ l1. takes_unless (k == 0 && not (parent == 0)) _ _ (other_node parent Strand 0) rest (root_free k parent first) (record { line = suc l1; is = refl })))
+    then_takes _ _ (number32_takes parent l (10 ∷ rest) low refl)
+    (λ l1. takes_unless (k == 0 && not (parent == 0)) _ _ (other_node parent Strand 0) rest (root_free k parent first) (record { line = suc l1; is = refl }))
 
-fork_takes : (k parent stamp l : ℕ) (rest : List ℕ) → parent < 2 ^ 32 → stamp < 2 ^ 64 →
-    Takes (node k (on_line l (line (codes "fork") (decimal parent ∷ decimal stamp ∷ []) ++ rest))) (other_node parent Fork stamp) rest
-fork_takes k parent stamp l rest low small =
-    subst (λ s. Takes (node k (on_line l s)) (other_node parent Fork stamp) rest) (sym (line_spelled (codes "fork") (decimal parent ∷ decimal stamp ∷ []) rest))
-    (then_takes _ _ _ _ _ _ (number32_takes parent l (spell (decimal stamp ∷ []) (10 ∷ rest)) low refl)
-    (λ l1. then_takes _ _ _ _ _ _ (number64_takes stamp l1 (10 ∷ rest) small refl)
-    (λ l2. record { line = suc l2; is = refl })))
+fork_takes : (parent stamp l : ℕ) (rest : List ℕ) → parent < 2 ^ 32 → stamp < 2 ^ 64 →
+    Takes (fork_node (on_line l (spell (decimal parent ∷ decimal stamp ∷ []) (10 ∷ rest)))) (other_node parent Fork stamp) rest
+fork_takes parent stamp l rest low small =
+    then_takes _ _ (number32_takes parent l (spell (decimal stamp ∷ []) (10 ∷ rest)) low refl)
+    (λ l1. then_takes _ _ (number64_takes stamp l1 (10 ∷ rest) small refl)
+    (λ l2. record { line = suc l2; is = refl }))
 
-block_takes : (k parent stamp : ℕ) (s : BlockState) (e l : ℕ) (rest : List ℕ) → parent < 2 ^ 32 → stamp < 2 ^ 64 → e < 2 ^ 64 →
-    Takes (node k (on_line l (line (codes "block") (decimal parent ∷ decimal stamp ∷ state_word s ∷ decimal e ∷ []) ++ rest)))
-        (record { parent = parent; kind = Block; state = s; stamp = stamp; end = e }) rest
-block_takes k parent stamp s e l rest low small later =
-    subst (λ t. Takes (node k (on_line l t)) (record { parent = parent; kind = Block; state = s; stamp = stamp; end = e }) rest)
-        (sym (line_spelled (codes "block") (decimal parent ∷ decimal stamp ∷ state_word s ∷ decimal e ∷ []) rest))
-    (then_takes _ _ _ _ _ _ (number32_takes parent l (spell (decimal stamp ∷ state_word s ∷ decimal e ∷ []) (10 ∷ rest)) low refl)
-    (λ l1. then_takes _ _ _ _ _ _ (number64_takes stamp l1 (spell (state_word s ∷ decimal e ∷ []) (10 ∷ rest)) small refl)
-    (λ l2. then_takes _ _ _ _ _ _ (state_takes s l2 (decimal e ++ (10 ∷ rest)))
-    (λ l3. then_takes _ _ _ _ _ _ (number64_takes e l3 (10 ∷ rest) later refl)
-    (λ l4. record { line = suc l4; is = refl })))))
+block_takes : (parent stamp : ℕ) (s : BlockState) (e l : ℕ) (rest : List ℕ) → parent < 2 ^ 32 → stamp < 2 ^ 64 → e < 2 ^ 64 →
+    Takes (block_node (on_line l (spell (decimal parent ∷ decimal stamp ∷ state_word s ∷ decimal e ∷ []) (10 ∷ rest))))
+    (record { parent = parent; kind = Block; state = s; stamp = stamp; end = e }) rest
+block_takes parent stamp s e l rest low small later =
+    then_takes _ _ (number32_takes parent l (spell (decimal stamp ∷ state_word s ∷ decimal e ∷ []) (10 ∷ rest)) low refl)
+    (λ l1. then_takes _ _ (number64_takes stamp l1 (spell (state_word s ∷ decimal e ∷ []) (10 ∷ rest)) small refl)
+    (λ l2. then_takes _ _ (state_takes s l2 (decimal e ++ (10 ∷ rest)))
+    (λ l3. then_takes _ _ (number64_takes e l3 (10 ∷ rest) later refl)
+    (λ l4. record { line = suc l4; is = refl }))))
 
 access_takes : (kind : ℕ → ℤ → Kind) (parent stamp cell : ℕ) (v : ℤ) (l : ℕ) (rest : List ℕ) → parent < 2 ^ 32 → stamp < 2 ^ 64 → cell < 2 ^ 32 → IsValue v →
     Takes (access_node kind (on_line l (spell (decimal parent ∷ decimal stamp ∷ decimal cell ∷ signed_decimal v ∷ []) (10 ∷ rest)))) (other_node parent (kind cell v) stamp) rest
 access_takes kind parent stamp cell v l rest low small known fit =
-    then_takes _ _ _ _ _ _ (number32_takes parent l (spell (decimal stamp ∷ decimal cell ∷ signed_decimal v ∷ []) (10 ∷ rest)) low refl)
-    (λ l1. then_takes _ _ _ _ _ _ (number64_takes stamp l1 (spell (decimal cell ∷ signed_decimal v ∷ []) (10 ∷ rest)) small refl)
-    (λ l2. then_takes _ _ _ _ _ _ (number32_takes cell l2 (spell (signed_decimal v ∷ []) (10 ∷ rest)) known refl)
-    (λ l3. then_takes _ _ _ _ _ _ (value_takes v l3 (10 ∷ rest) fit refl)
+    then_takes _ _ (number32_takes parent l (spell (decimal stamp ∷ decimal cell ∷ signed_decimal v ∷ []) (10 ∷ rest)) low refl)
+    (λ l1. then_takes _ _ (number64_takes stamp l1 (spell (decimal cell ∷ signed_decimal v ∷ []) (10 ∷ rest)) small refl)
+    (λ l2. then_takes _ _ (number32_takes cell l2 (spell (signed_decimal v ∷ []) (10 ∷ rest)) known refl)
+    (λ l3. then_takes _ _ (value_takes v l3 (10 ∷ rest) fit refl)
     (λ l4. record { line = suc l4; is = refl }))))
 
-out_takes : (k parent stamp : ℕ) (v : ℤ) (l : ℕ) (rest : List ℕ) → parent < 2 ^ 32 → stamp < 2 ^ 64 → IsValue v →
-    Takes (node k (on_line l (line (codes "out") (decimal parent ∷ decimal stamp ∷ signed_decimal v ∷ []) ++ rest))) (other_node parent (Out v) stamp) rest
-out_takes k parent stamp v l rest low small fit =
-    subst (λ s. Takes (node k (on_line l s)) (other_node parent (Out v) stamp) rest) (sym (line_spelled (codes "out") (decimal parent ∷ decimal stamp ∷ signed_decimal v ∷ []) rest))
-    (then_takes _ _ _ _ _ _ (number32_takes parent l (spell (decimal stamp ∷ signed_decimal v ∷ []) (10 ∷ rest)) low refl)
-    (λ l1. then_takes _ _ _ _ _ _ (number64_takes stamp l1 (spell (signed_decimal v ∷ []) (10 ∷ rest)) small refl)
-    (λ l2. then_takes _ _ _ _ _ _ (value_takes v l2 (10 ∷ rest) fit refl)
-    (λ l3. record { line = suc l3; is = refl }))))
+out_takes : (parent stamp : ℕ) (v : ℤ) (l : ℕ) (rest : List ℕ) → parent < 2 ^ 32 → stamp < 2 ^ 64 → IsValue v →
+    Takes (out_node (on_line l (spell (decimal parent ∷ decimal stamp ∷ signed_decimal v ∷ []) (10 ∷ rest)))) (other_node parent (Out v) stamp) rest
+out_takes parent stamp v l rest low small fit =
+    then_takes _ _ (number32_takes parent l (spell (decimal stamp ∷ signed_decimal v ∷ []) (10 ∷ rest)) low refl)
+    (λ l1. then_takes _ _ (number64_takes stamp l1 (spell (signed_decimal v ∷ []) (10 ∷ rest)) small refl)
+    (λ l2. then_takes _ _ (value_takes v l2 (10 ∷ rest) fit refl)
+    (λ l3. record { line = suc l3; is = refl })))
 
-tried_takes : (k parent cell l : ℕ) (rest : List ℕ) → parent < 2 ^ 32 → cell < 2 ^ 32 →
-    Takes (node k (on_line l (line (codes "tried") (decimal parent ∷ decimal cell ∷ []) ++ rest))) (other_node parent (Tried cell) 0) rest
-tried_takes k parent cell l rest low known =
-    subst (λ s. Takes (node k (on_line l s)) (other_node parent (Tried cell) 0) rest) (sym (line_spelled (codes "tried") (decimal parent ∷ decimal cell ∷ []) rest))
-    (then_takes _ _ _ _ _ _ (number32_takes parent l (spell (decimal cell ∷ []) (10 ∷ rest)) low refl)
-    (λ l1. then_takes _ _ _ _ _ _ (number32_takes cell l1 (10 ∷ rest) known refl)
-    (λ l2. record { line = suc l2; is = refl })))
+tried_takes : (parent cell l : ℕ) (rest : List ℕ) → parent < 2 ^ 32 → cell < 2 ^ 32 →
+    Takes (tried_node (on_line l (spell (decimal parent ∷ decimal cell ∷ []) (10 ∷ rest)))) (other_node parent (Tried cell) 0) rest
+tried_takes parent cell l rest low known =
+    then_takes _ _ (number32_takes parent l (spell (decimal cell ∷ []) (10 ∷ rest)) low refl)
+    (λ l1. then_takes _ _ (number32_takes cell l1 (10 ∷ rest) known refl)
+    (λ l2. record { line = suc l2; is = refl }))
 
-cancel_takes : (k parent stamp : ℕ) (bs : List Back) (l : ℕ) (rest : List ℕ) → parent < 2 ^ 32 → stamp < 2 ^ 64 → IsCountable bs → All BackFits bs →
-    Takes (node k (on_line l (line (codes "cancel") (decimal parent ∷ decimal stamp ∷ decimal (length bs) ∷ back_items bs) ++ rest))) (other_node parent (Cancel bs) stamp) rest
-cancel_takes k parent stamp bs l rest low small few fit =
+cancel_takes : (parent stamp : ℕ) (bs : List Back) (l : ℕ) (rest : List ℕ) → parent < 2 ^ 32 → stamp < 2 ^ 64 → IsCountable bs → All BackFits bs →
+    Takes (cancel_node (on_line l (spell (decimal parent ∷ decimal stamp ∷ decimal (length bs) ∷ back_items bs) (10 ∷ rest)))) (other_node parent (Cancel bs) stamp) rest
+cancel_takes parent stamp bs l rest low small few fit =
     let backs = spell (back_items bs) (10 ∷ rest) in
-    subst (λ s. Takes (node k (on_line l s)) (other_node parent (Cancel bs) stamp) rest)
-        (sym (line_spelled (codes "cancel") (decimal parent ∷ decimal stamp ∷ decimal (length bs) ∷ back_items bs) rest))
-    (then_takes _ _ _ _ _ _ (number32_takes parent l (spell (decimal stamp ∷ decimal (length bs) ∷ back_items bs) (10 ∷ rest)) low refl)
-    (λ l1. then_takes _ _ _ _ _ _ (number64_takes stamp l1 (spell (decimal (length bs) ∷ back_items bs) (10 ∷ rest)) small refl)
-    (λ l2. then_takes _ _ _ _ _ _ (number_takes 100000001 (length bs) l2 backs (omega arith) (omega arith) (backs_end bs rest))
-    (λ l3. then_takes _ _ _ _ _ _ (backs_take bs l3 rest fit)
-    (λ l4. takes_if (length bs == length bs) _ _ (other_node parent (Cancel bs) stamp) rest (eq-eqb (length bs) (length bs) refl) (record { line = suc l4; is = refl }))))))
+    then_takes _ _ (number32_takes parent l (spell (decimal stamp ∷ decimal (length bs) ∷ back_items bs) (10 ∷ rest)) low refl)
+    (λ l1. then_takes _ _ (number64_takes stamp l1 (spell (decimal (length bs) ∷ back_items bs) (10 ∷ rest)) small refl)
+    (λ l2. then_takes _ _ (number_takes 100000001 (length bs) l2 backs (omega arith) (omega arith) (backs_end bs rest))
+    (λ l3. then_takes _ _ (backs_take bs l3 rest fit)
+    (λ l4. takes_if (length bs == length bs) _ _ (other_node parent (Cancel bs) stamp) rest (eq-eqb (length bs) (length bs) refl) (record { line = suc l4; is = refl })))))
 
 -- ## A node of any kind
 
@@ -141,24 +131,30 @@ kind_takes : (k : ℕ) (kind : Kind) (parent stamp : ℕ) (s : BlockState) (e l 
     IsFit k (record { parent = parent; kind = kind; state = s; stamp = stamp; end = e }) → parent < 2 ^ 32 → stamp < 2 ^ 64 → e < 2 ^ 64 → KindFits kind →
     Takes (node k (on_line l (kind_line kind parent stamp s e ++ rest))) (record { parent = parent; kind = kind; state = s; stamp = stamp; end = e }) rest
 kind_takes k Strand parent stamp s e l rest fit low small later fits =
-    as_unstamped _ parent Strand stamp s e rest (fit.line.stamp refl) (fit.line.state refl) (fit.line.end refl) (strand_takes k parent l rest low (λ first. fit.root first refl))
+    as_unstamped _ parent Strand stamp s e rest (fit.line.stamp refl) (fit.line.state refl) (fit.line.end refl)
+    (line_takes (node k) (codes "strand") (decimal parent ∷ []) l rest (strand_takes k parent l rest low (λ first. fit.root first refl)))
 kind_takes k Fork parent stamp s e l rest fit low small later fits =
-    as_other _ parent Fork stamp s e rest (fit.line.state refl) (fit.line.end refl) (fork_takes k parent stamp l rest low small)
-kind_takes k Block parent stamp s e l rest fit low small later fits = block_takes k parent stamp s e l rest low small later
+    as_other _ parent Fork stamp s e rest (fit.line.state refl) (fit.line.end refl)
+    (line_takes (node k) (codes "fork") (decimal parent ∷ decimal stamp ∷ []) l rest (fork_takes parent stamp l rest low small))
+kind_takes k Block parent stamp s e l rest fit low small later fits =
+    line_takes (node k) (codes "block") (decimal parent ∷ decimal stamp ∷ state_word s ∷ decimal e ∷ []) l rest (block_takes parent stamp s e l rest low small later)
 kind_takes k (Read cell v) parent stamp s e l rest fit low small later fits =
     as_other _ parent (Read cell v) stamp s e rest (fit.line.state refl) (fit.line.end refl)
-    (subst (λ t. Takes (node k (on_line l t)) (other_node parent (Read cell v) stamp) rest) (sym (line_spelled (codes "read") (decimal parent ∷ decimal stamp ∷ decimal cell ∷ signed_decimal v ∷ []) rest))
-        (access_takes (λ c v. Read c v) parent stamp cell v l rest low small fits.0 fits.1))
+    (line_takes (node k) (codes "read") (decimal parent ∷ decimal stamp ∷ decimal cell ∷ signed_decimal v ∷ []) l rest
+    (access_takes (λ c v. Read c v) parent stamp cell v l rest low small fits.0 fits.1))
 kind_takes k (Write cell v) parent stamp s e l rest fit low small later fits =
     as_other _ parent (Write cell v) stamp s e rest (fit.line.state refl) (fit.line.end refl)
-    (subst (λ t. Takes (node k (on_line l t)) (other_node parent (Write cell v) stamp) rest) (sym (line_spelled (codes "write") (decimal parent ∷ decimal stamp ∷ decimal cell ∷ signed_decimal v ∷ []) rest))
-        (access_takes (λ c v. Write c v) parent stamp cell v l rest low small fits.0 fits.1))
+    (line_takes (node k) (codes "write") (decimal parent ∷ decimal stamp ∷ decimal cell ∷ signed_decimal v ∷ []) l rest
+    (access_takes (λ c v. Write c v) parent stamp cell v l rest low small fits.0 fits.1))
 kind_takes k (Out v) parent stamp s e l rest fit low small later fits =
-    as_other _ parent (Out v) stamp s e rest (fit.line.state refl) (fit.line.end refl) (out_takes k parent stamp v l rest low small fits)
+    as_other _ parent (Out v) stamp s e rest (fit.line.state refl) (fit.line.end refl)
+    (line_takes (node k) (codes "out") (decimal parent ∷ decimal stamp ∷ signed_decimal v ∷ []) l rest (out_takes parent stamp v l rest low small fits))
 kind_takes k (Tried cell) parent stamp s e l rest fit low small later fits =
-    as_unstamped _ parent (Tried cell) stamp s e rest (fit.line.stamp refl) (fit.line.state refl) (fit.line.end refl) (tried_takes k parent cell l rest low fits)
+    as_unstamped _ parent (Tried cell) stamp s e rest (fit.line.stamp refl) (fit.line.state refl) (fit.line.end refl)
+    (line_takes (node k) (codes "tried") (decimal parent ∷ decimal cell ∷ []) l rest (tried_takes parent cell l rest low fits))
 kind_takes k (Cancel bs) parent stamp s e l rest fit low small later fits =
-    as_other _ parent (Cancel bs) stamp s e rest (fit.line.state refl) (fit.line.end refl) (cancel_takes k parent stamp bs l rest low small fits.0 fits.1)
+    as_other _ parent (Cancel bs) stamp s e rest (fit.line.state refl) (fit.line.end refl)
+    (line_takes (node k) (codes "cancel") (decimal parent ∷ decimal stamp ∷ decimal (length bs) ∷ back_items bs) l rest (cancel_takes parent stamp bs l rest low small fits.0 fits.1))
 
 pub node_takes : (k : ℕ) (x : Node) (l : ℕ) (rest : List ℕ) → IsReadable k x → Takes (node k (on_line l (node_line x ++ rest))) x rest
 node_takes k x l rest h = kind_takes k x.kind x.parent x.stamp x.state x.end l rest h.fit h.range.parent h.range.stamp h.range.end h.range.kind

@@ -1,5 +1,5 @@
 -- The text of a sheet has whole characters: all behind the source and before it is ASCII.
-use Rattle.std.proofs.Common.{◌≡◌, ℕ, zero, suc, ◌^◌, ◌<◌, ◌≤◌, ◌&&◌, Bool, true, false, nat_lt, cond, List, [], ◌∷◌, ◌++◌, codes, length, take, ℤ, pos, negsuc, Result, Ok, Err, refl, ap, sym, subst, ◌∙◌, arith, All, take_all, if◌then◌else◌}
+use Rattle.std.proofs.Common.{◌≡◌, ℕ, zero, suc, ◌^◌, ◌<◌, ◌≤◌, true, nat_lt, List, [], ◌∷◌, ◌++◌, codes, length, take, ℤ, pos, negsuc, Ok, refl, ap, subst, arith}
 use Rattle.std.proofs.lemmas.Bool.{and_parts, cond_both, ltb-false, ltb-true}
 use Rattle.std.proofs.lemmas.Fmt.{IsAscii-decimal}
 use Rattle.std.proofs.lemmas.List.Elements.{recursion_from_All}
@@ -9,7 +9,6 @@ use Rattle.std.specs.Fmt.{decimal, signed_decimal}
 use Rattle.std.specs.List.{AllByRecursion, flat_map, list_all}
 use Rattle.std.specs.Str.{IsAscii, IsUtf8, is_utf8}
 use Rattle.std.specs.Str.Lossy.{utf8_valid_len, valid_len_up_to}
-use Rattle.cw_text.specs.declared.fault.TextFault.{TextFault}
 use Rattle.cw_text.specs.PrintedText.{printed_text}
 use Rattle.cw_text.specs.Syntax.{Source}
 use Rattle.cw_text.specs.Text.{reading}
@@ -26,7 +25,6 @@ use Rattle.cw_tree.specs.declared.node.BlockState.TheVariants.{Pending, Committe
 use Rattle.cw_record.specs.declared.record_end.RecordEnd.{RecordEnd}
 use Rattle.cw_record.specs.declared.record_end.RecordEnd.TheVariants.{Finished, Fault, Budget, Moves}
 use Rattle.cw_sheet.specs.Contents.{Contents, HasSourceText}
-use Rattle.cw_sheet.specs.Items.{is_i64}
 use Rattle.cw_sheet.specs.Laws.{BackFits, ConflictFits, EndFits, Fits64, IsInRange, IsValue, KindFits, LimitsFit, NodeFits}
 use Rattle.cw_sheet.specs.SheetText.{after_source, back_items, before_source, conflict_line, conflicts_part, decimals, end_part, fault_word, kind_line, last_line, limits_line, line, node_line, nodes_part, sheet_text, signed_decimals, spaced, state_word, words_line}
 
@@ -51,9 +49,9 @@ read_is_utf8 newest most text s =
     cond_both (nat_lt most (length text)) _ _ (λ r. r ≡ Ok s → IsUtf8 text) (λ _ e. cc)
     (λ _. cond_both (nat_lt (utf8_valid_len text) (length text)) _ _ (λ r. r ≡ Ok s → IsUtf8 text) (λ _ e. cc)
     (λ short _.
-        let there : length text ≤ utf8_valid_len text = ltb-false (utf8_valid_len text) (length text) short in
-        let whole : utf8_valid_len text ≡ length text = omega (arith, utf8_valid_len_le text) in
-        subst IsUtf8 (take_whole text) (whole_is_utf8 text whole)))
+    let there : length text ≤ utf8_valid_len text = ltb-false (utf8_valid_len text) (length text) short in
+    let whole : utf8_valid_len text ≡ length text = omega (arith, utf8_valid_len_le text) in
+    subst IsUtf8 (take_whole text) (whole_is_utf8 text whole)))
 
 -- ## ASCII
 
@@ -129,9 +127,22 @@ node_ascii x h = kind_ascii x.kind x.parent x.stamp x.state x.end h.parent h.sta
 
 conflict_ascii : (x : Conflict) → ConflictFits x → IsAscii (conflict_line x)
 conflict_ascii x h =
-    line_ascii (decimal x.cell) (decimals (x.last ∷ x.asker ∷ x.block ∷ x.victim ∷ x.attempt ∷ x.chain)) (number32_ascii x.cell h.cell)
-    (number64_ascii x.last h.last, (number32_ascii x.asker h.asker, (number64_ascii x.block h.block, (number64_ascii x.victim h.victim, (number32_ascii x.attempt h.attempt,
-        numbers_ascii x.chain (recursion_from_All Fits64 x.chain h.chain))))))
+    line_ascii (decimal x.cell) (decimals (x.last ∷ x.asker ∷ x.block ∷ x.victim ∷ x.attempt ∷ x.chain)) (number32_ascii x.cell h.cell) (
+      number64_ascii x.last h.last,
+      (
+        number32_ascii x.asker h.asker,
+        (
+          number64_ascii x.block h.block,
+          (
+            number64_ascii x.victim h.victim,
+            (
+              number32_ascii x.attempt h.attempt,
+              numbers_ascii x.chain (recursion_from_All Fits64 x.chain h.chain),
+            ),
+          ),
+        ),
+      ),
+    )
 
 kind_word_ascii : (k : FaultKind) → IsAscii (fault_word k)
 kind_word_ascii fault.Zero = letters (codes "Zero") refl
@@ -147,9 +158,9 @@ end_ascii (Finished memory outputs) h =
     let m = line (codes "memory") (signed_decimals memory) in
     let o = line (codes "outputs") (signed_decimals outputs) in
     IsAscii-append (f ++ m) o
-        (IsAscii-append f m (letters f refl)
-            (line_ascii (codes "memory") (signed_decimals memory) (letters (codes "memory") refl) (values_ascii memory (recursion_from_All IsValue memory h.0))))
-        (line_ascii (codes "outputs") (signed_decimals outputs) (letters (codes "outputs") refl) (values_ascii outputs (recursion_from_All IsValue outputs h.1)))
+    (IsAscii-append f m (letters f refl)
+    (line_ascii (codes "memory") (signed_decimals memory) (letters (codes "memory") refl) (values_ascii memory (recursion_from_All IsValue memory h.0))))
+    (line_ascii (codes "outputs") (signed_decimals outputs) (letters (codes "outputs") refl) (values_ascii outputs (recursion_from_All IsValue outputs h.1)))
 end_ascii (Fault s k) h = line_ascii (codes "fault") (decimal s ∷ fault_word k ∷ []) (letters (codes "fault") refl) (number32_ascii s h, (kind_word_ascii k, tt))
 end_ascii (Budget s) h = line_ascii (codes "budget") (decimal s ∷ []) (letters (codes "budget") refl) (number32_ascii s h, tt)
 end_ascii Moves h = letters (line (codes "moves") []) refl
@@ -159,7 +170,7 @@ end_ascii Moves h = letters (line (codes "moves") []) refl
 before_ascii : (n : ℕ) → n ≤ 100000000 → IsAscii (before_source n)
 before_ascii n few =
     IsAscii-append (line (codes "cwstm") (codes "record" ∷ codes "1" ∷ [])) (line (codes "source") (decimals (n ∷ []))) (letters (line (codes "cwstm") (codes "record" ∷ codes "1" ∷ [])) refl)
-        (line_ascii (codes "source") (decimals (n ∷ [])) (letters (codes "source") refl) (count_ascii n few, tt))
+    (line_ascii (codes "source") (decimals (n ∷ [])) (letters (codes "source") refl) (count_ascii n few, tt))
 
 limits_ascii : (l : Limits) → LimitsFit l → IsAscii (limits_line l)
 limits_ascii l h =
@@ -176,25 +187,25 @@ after_ascii c h =
     let wln = wl ++ nodes_part c.tree in
     let wlnk = wln ++ conflicts_part c.conflicts in
     IsAscii-append (wlnk ++ end_part c.end) last_line
-        (IsAscii-append wlnk (end_part c.end)
-            (IsAscii-append wln (conflicts_part c.conflicts)
-                (IsAscii-append wl (nodes_part c.tree)
-                    (IsAscii-append w (limits_line c.limits)
-                        (line_ascii (codes "words") (signed_decimals c.words) (letters (codes "words") refl) (values_ascii c.words (recursion_from_All IsValue c.words h.words)))
-                        (limits_ascii c.limits h.limits))
-                    (counted_ascii (codes "nodes") (flat_map node_line c.tree) (length c.tree) h.nodes.0 refl
-                        (lines_ascii NodeFits node_line node_ascii c.tree (recursion_from_All NodeFits c.tree h.nodes.1))))
-                (counted_ascii (codes "conflicts") (flat_map conflict_line c.conflicts) (length c.conflicts) h.conflicts.0 refl
-                    (lines_ascii ConflictFits conflict_line conflict_ascii c.conflicts (recursion_from_All ConflictFits c.conflicts h.conflicts.1))))
-            (end_ascii c.end h.end))
-        (letters last_line refl)
+    (IsAscii-append wlnk (end_part c.end)
+    (IsAscii-append wln (conflicts_part c.conflicts)
+    (IsAscii-append wl (nodes_part c.tree)
+    (IsAscii-append w (limits_line c.limits)
+    (line_ascii (codes "words") (signed_decimals c.words) (letters (codes "words") refl) (values_ascii c.words (recursion_from_All IsValue c.words h.words)))
+    (limits_ascii c.limits h.limits))
+    (counted_ascii (codes "nodes") (flat_map node_line c.tree) (length c.tree) h.nodes.0 refl
+    (lines_ascii NodeFits node_line node_ascii c.tree (recursion_from_All NodeFits c.tree h.nodes.1))))
+    (counted_ascii (codes "conflicts") (flat_map conflict_line c.conflicts) (length c.conflicts) h.conflicts.0 refl
+    (lines_ascii ConflictFits conflict_line conflict_ascii c.conflicts (recursion_from_All ConflictFits c.conflicts h.conflicts.1))))
+    (end_ascii c.end h.end))
+    (letters last_line refl)
 
 pub text_is_utf8 : (c : Contents) → HasSourceText c.source → IsInRange c → IsUtf8 (sheet_text c)
 text_is_utf8 c has h =
     let n = length (printed_text c.source) in
     let fits = h.source in
     IsUtf8-append (before_source n ++ printed_text c.source) (after_source c)
-        (IsUtf8-append (before_source n) (printed_text c.source)
-            (IsUtf8-from_ascii (before_source n) (before_ascii n (omega arith)))
-            (read_is_utf8 2 n (printed_text c.source) has.read.0 has.read.1))
-        (IsUtf8-from_ascii (after_source c) (after_ascii c h))
+    (IsUtf8-append (before_source n) (printed_text c.source)
+    (IsUtf8-from_ascii (before_source n) (before_ascii n (omega arith)))
+    (read_is_utf8 2 n (printed_text c.source) has.read.0 has.read.1))
+    (IsUtf8-from_ascii (after_source c) (after_ascii c h))

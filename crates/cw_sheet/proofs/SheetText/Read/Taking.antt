@@ -1,5 +1,5 @@
 -- What readers take of texts that are spelled out.
-use Rattle.std.proofs.Common.{◌≡◌, ℕ, ◌≤◌, Bool, true, false, if◌then◌else◌, List, [], ◌∷◌, ◌++◌, length, refl, ap, sym, subst, ◌∙◌, append_assoc, length-append, arith}
+use Rattle.std.proofs.Common.{◌≡◌, ℕ, ◌≤◌, Bool, true, false, if◌then◌else◌, List, [], ◌∷◌, ◌++◌, length, refl, ap, ◌∙◌, append_assoc, length-append, arith, subst, sym}
 use Rattle.cw_sheet.specs.Items.{Place, Taken, took, ◌into◌, first_item}
 use Rattle.cw_sheet.specs.SheetText.{line, spaced}
 
@@ -11,9 +11,9 @@ pub record Takes {A : Type 0} (r : Taken A) (x : A) (rest : List ℕ) : Type 0 w
   pub line : ℕ
   pub is : r ≡ took x (on_line line rest)
 
-pub then_takes : {A B : Type 0} (x : A) (y : B) (middle rest : List ℕ) (r : Taken A) (f : A → Place → Taken B) →
+pub then_takes : {A B : Type 0} {x : A} {y : B} {middle rest : List ℕ} (r : Taken A) (f : A → Place → Taken B) →
     Takes r x middle → ((l : ℕ) → Takes (f x (on_line l middle)) y rest) → Takes (r into f) y rest
-then_takes x y middle rest r f h g = let k = g h.line in record { line = k.line; is = ap (λ s. s into f) h.is ∙ k.is }
+then_takes r f h g = let k = g h.line in record { line = k.line; is = ap (λ s. s into f) h.is ∙ k.is }
 
 pub takes_if : {A : Type 0} (b : Bool) (r s : Taken A) (x : A) (rest : List ℕ) → b ≡ true → Takes r x rest → Takes (if b then r else s) x rest
 takes_if true r s x rest e h = h
@@ -37,6 +37,11 @@ spaced_spelled (i ∷ is) rest = append_assoc (32 ∷ i) (spaced is) rest ∙ ap
 pub line_spelled : (w : List ℕ) (is : List (List ℕ)) (rest : List ℕ) → line w is ++ rest ≡ w ++ spell is (10 ∷ rest)
 line_spelled w is rest =
     append_assoc (w ++ spaced is) (10 ∷ []) rest ∙ append_assoc w (spaced is) (10 ∷ rest) ∙ ap (λ r. w ++ r) (spaced_spelled is (10 ∷ rest))
+
+-- what is taken of a line, by its items
+pub line_takes : {A : Type 0} {x : A} {left : List ℕ} (read : Place → Taken A) (w : List ℕ) (is : List (List ℕ)) (l : ℕ) (rest : List ℕ) →
+    Takes (read (on_line l (w ++ spell is (10 ∷ rest)))) x left → Takes (read (on_line l (line w is ++ rest))) x left
+line_takes {x = x} {left = left} read w is l rest h = subst (λ s. Takes (read (on_line l s)) x left) (sym (line_spelled w is rest)) h
 
 -- an item ends where the next one begins
 pub ends_there : (is : List (List ℕ)) (rest : List ℕ) → first_item (spell is (10 ∷ rest)) ≡ []

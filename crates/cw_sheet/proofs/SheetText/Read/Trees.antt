@@ -1,5 +1,5 @@
 -- In a tree no node is misplaced.
-use Rattle.std.proofs.Common.{◌≡◌, ℕ, zero, suc, ◌<◌, ◌&&◌, ◌||◌, Bool, true, false, not, nat_lt, List, [], ◌∷◌, length, Option, Some, None, refl, ap, sym, subst, ◌∙◌, arith, IsTrue, find}
+use Rattle.std.proofs.Common.{◌≡◌, ℕ, zero, suc, ◌<◌, ◌&&◌, ◌||◌, Bool, true, false, not, nat_lt, List, [], ◌∷◌, length, None, refl, ap, ◌∙◌, arith, find}
 use Rattle.std.proofs.lemmas.Bool.{and_from, lt-ltb, not_from_true, or_left, or_right}
 use Rattle.cw_tree.specs.declared.node.Node.{Node}
 use Rattle.cw_tree.specs.Nodes.{all_nodes, is_block, is_fork, is_strand, parent_of}
@@ -21,8 +21,8 @@ module _ (t : List Node) (tree : IsTree t) where
       let low = nat_lt p (suc m) in
       let inner = is_strand t p || is_fork t p || is_block t p in
       and_from (low && inner) (is_fork t p || not (is_strand t (suc m)))
-          (and_from low inner (lt-ltb p (suc m) (tree.rooted (suc m) (omega arith) there)) (tree.parents (suc m) there (omega arith)))
-          (hung m there (is_strand t (suc m)) refl)
+      (and_from low inner (lt-ltb p (suc m) (tree.rooted (suc m) (omega arith) there)) (tree.parents (suc m) there (omega arith)))
+      (hung m there (is_strand t (suc m)) refl)
 
   forked : (n : ℕ) → n < length t → (b : Bool) → is_fork t n ≡ b → (are_two_strands t (children t n) || not b) ≡ true
   forked n there true fork =
@@ -33,7 +33,7 @@ module _ (t : List Node) (tree : IsTree t) where
   placed : (n : ℕ) → n < length t → is_misplaced t n ≡ false
   placed n there =
       not_from_true (hangs_well t n && (are_two_strands t (children t n) || not (is_fork t n)))
-          (and_from (hangs_well t n) (are_two_strands t (children t n) || not (is_fork t n)) (hangs n there) (forked n there (is_fork t n) refl))
+      (and_from (hangs_well t n) (are_two_strands t (children t n) || not (is_fork t n)) (hangs n there) (forked n there (is_fork t n) refl))
 
   none_found : find (is_misplaced t) (all_nodes t) ≡ None
   none_found = find_none (is_misplaced t) (all_nodes t) (λ n i. placed n (in_below n (length t) i))

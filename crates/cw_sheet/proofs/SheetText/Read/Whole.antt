@@ -1,5 +1,5 @@
 -- A sheet that has a text is read from it.
-use Rattle.std.proofs.Common.{◌≡◌, ℕ, zero, suc, ◌<◌, ◌≤◌, Bool, nat_lt, List, [], ◌∷◌, ◌++◌, codes, length, Option, None, Result, Ok, Err, refl, ap, sym, subst, ◌∙◌, append_assoc, arith, le_refl, All}
+use Rattle.std.proofs.Common.{◌≡◌, ℕ, suc, ◌<◌, ◌≤◌, List, [], ◌∷◌, ◌++◌, codes, length, None, Ok, refl, ap, sym, subst, ◌∙◌, append_assoc, arith, le_refl}
 use Rattle.std.proofs.lemmas.Bool.{le-ltb}
 use Rattle.std.proofs.lemmas.List.Elements.{recursion_from_All}
 use Rattle.std.proofs.lemmas.Str.{utf8_valid_len-IsUtf8}
@@ -9,11 +9,11 @@ use Rattle.cw_text.specs.PrintedText.{printed_text}
 use Rattle.cw_text.specs.Syntax.{Source}
 use Rattle.cw_tree.specs.declared.node.Node.{Node}
 use Rattle.cw_tree.specs.Nodes.{parent_of}
-use Rattle.cw_sheet.specs.Contents.{Contents, HasLine, HasSourceText, HasText}
+use Rattle.cw_sheet.specs.Contents.{Contents, HasLine, HasText}
 use Rattle.cw_sheet.specs.Items.{Place, Taken, took, ◌into◌}
 use Rattle.cw_sheet.specs.Laws.{IsInRange, IsSheetReadAs, IsValue, NodeFits, TextIsRead}
-use Rattle.cw_sheet.specs.Reading.{behind_source, conflicts, contents_from, heading, judged_sheet, last, limits, misplaced, nodes, run_end, sheet_reading, source, values, with_tree}
-use Rattle.cw_sheet.specs.SheetText.{after_source, before_source, conflicts_part, decimals, end_part, first_line, last_line, limits_line, line, nodes_part, sheet_text, words_line}
+use Rattle.cw_sheet.specs.Reading.{behind_source, contents_from, judged_sheet, last, misplaced, sheet_reading, with_tree}
+use Rattle.cw_sheet.specs.SheetText.{after_source, conflicts_part, decimals, end_part, first_line, last_line, limits_line, line, nodes_part, sheet_text, words_line}
 use Rattle.cw_sheet.proofs.SheetText.Told.Items.{AllFrom}
 use Rattle.cw_sheet.proofs.SheetText.Told.Nodes.{IsReadable}
 use Rattle.cw_sheet.proofs.SheetText.Read.Ends.{conflicts_take, end_takes, nodes_take}
@@ -29,9 +29,9 @@ record Reads (r : Taken (Contents × ℕ)) (c : Contents) : Type 0 where
   line : ℕ
   is : r ≡ took (c, nodes_line) (on_line line [])
 
-then_reads : {A : Type 0} (x : A) (c : Contents) (middle : List ℕ) (r : Taken A) (f : A → Place → Taken (Contents × ℕ)) →
+then_reads : {A : Type 0} {x : A} {c : Contents} {middle : List ℕ} (r : Taken A) (f : A → Place → Taken (Contents × ℕ)) →
     Takes r x middle → ((l : ℕ) → Reads (f x (on_line l middle)) c) → Reads (r into f) c
-then_reads x c middle r f h g = let k = g h.line in record { nodes_line = k.nodes_line; line = k.line; is = ap (λ s. s into f) h.is ∙ k.is }
+then_reads r f h g = let k = g h.line in record { nodes_line = k.nodes_line; line = k.line; is = ap (λ s. s into f) h.is ∙ k.is }
 
 -- ## The nodes
 
@@ -56,11 +56,11 @@ behind_reads c s l range readable =
     let k = conflicts_part c.conflicts ++ e in
     let n = nodes_part c.tree ++ k in
     let m = limits_line c.limits ++ n in
-    then_reads _ _ m _ _ (values_takes (codes "words") c.words l m refl (recursion_from_All IsValue c.words range.words))
-    (λ l1. then_reads _ _ n _ _ (limits_takes c.limits l1 n range.limits)
-    (λ l2. then_reads _ _ k _ _ (nodes_take c.tree l2 k range.nodes.0 readable)
-    (λ l3. then_reads _ _ e _ _ (conflicts_take c.conflicts l3 e range.conflicts.0 range.conflicts.1)
-    (λ l4. then_reads _ _ last_line _ _ (end_takes c.end l4 last_line range.end)
+    then_reads _ _ (values_takes (codes "words") c.words l m refl (recursion_from_All IsValue c.words range.words))
+    (λ l1. then_reads _ _ (limits_takes c.limits l1 n range.limits)
+    (λ l2. then_reads _ _ (nodes_take c.tree l2 k range.nodes.0 readable)
+    (λ l3. then_reads _ _ (conflicts_take c.conflicts l3 e range.conflicts.0 range.conflicts.1)
+    (λ l4. then_reads _ _ (end_takes c.end l4 last_line range.end)
     (λ l5. last_reads (record c { source = s }) l2 l5)))))
 
 -- the parts of a text, one behind the other
@@ -92,11 +92,12 @@ text_reads c has range =
     let d : Contents = record c { source = found.read } in
     let readable = all_readable c.tree has.root (recursion_from_All HasLine c.tree has.lines) (recursion_from_All NodeFits c.tree range.nodes.1) in
     let behind : (l : ℕ) → Reads (behind_source found.read (on_line l (after_source c))) d =
-        λ l. subst (λ u. Reads (behind_source found.read (on_line l u)) d) (sym (after_spelled c)) (behind_reads c found.read l range readable) in
-    (found.read,
-        subst (λ u. Reads (contents_from (on_line 1 u)) d) (sym (text_spelled c))
-            (then_reads found.read d (after_source c) (source (on_line 2 (sized ++ (printed_text c.source ++ after_source c)))) (λ s p. behind_source s p) found.takes behind),
-        found.same)
+    λ l. subst (λ u. Reads (behind_source found.read (on_line l u)) d) (sym (after_spelled c)) (behind_reads c found.read l range readable) in (
+      found.read,
+      subst (λ u. Reads (contents_from (on_line 1 u)) d) (sym (text_spelled c))
+          (then_reads _ _ found.takes behind),
+      found.same,
+    )
 
 judged_reads : (r : Taken (Contents × ℕ)) (c : Contents) → Reads r c → misplaced c.tree ≡ None → judged_sheet r ≡ Ok c
 judged_reads r c h well = ap judged_sheet h.is ∙ ap (λ o. with_tree h.nodes_line o c) well

@@ -1,5 +1,5 @@
 -- An item that was taken is spelled so.
-use Rattle.std.proofs.Common.{◌≡◌, ℕ, zero, suc, ◌==◌, ◌<◌, ◌&&◌, ◌||◌, Bool, true, false, not, nat_lt, if◌then◌else◌, List, [], ◌∷◌, ◌++◌, length, drop, ℤ, refl, ap, sym, ◌∙◌}
+use Rattle.std.proofs.Common.{◌≡◌, ℕ, zero, suc, ◌==◌, ◌<◌, ◌&&◌, ◌||◌, Bool, true, not, nat_lt, if◌then◌else◌, List, [], ◌∷◌, ◌++◌, length, drop, refl, ap, sym, ◌∙◌}
 use Rattle.std.proofs.lemmas.Bool.{eqb-true, false≢true, and_parts, ltb-true}
 use Rattle.std.specs.Cmp.Lexicographic.{bytes_decides}
 use Rattle.std.specs.Fmt.{decimal, signed_decimal}
@@ -65,8 +65,8 @@ first_number_told limit p =
     let n = value_of_digits i in
     judged_told (λ m q. BeginsWith p.text (decimal m) q.text × (m < limit)) i (nat_lt n limit && bytes_eq i (decimal n)) n (behind (length i) p)
     (λ e.
-        let parts = and_parts (nat_lt n limit) (bytes_eq i (decimal n)) e in
-        (item_is p.text (decimal n) ((bytes_decides i (decimal n)).0 parts.1), ltb-true n limit parts.0))
+    let parts = and_parts (nat_lt n limit) (bytes_eq i (decimal n)) e in
+    (item_is p.text (decimal n) ((bytes_decides i (decimal n)).0 parts.1), ltb-true n limit parts.0))
 
 first_value_told : (p : Place) → IfTook (λ z q. BeginsWith p.text (signed_decimal z) q.text × IsValue z) (first_value p)
 first_value_told p =
@@ -74,8 +74,8 @@ first_value_told p =
     let z = value_of_numeral i in
     judged_told (λ y q. BeginsWith p.text (signed_decimal y) q.text × IsValue y) i (is_i64 z && bytes_eq i (signed_decimal z)) z (behind (length i) p)
     (λ e.
-        let parts = and_parts (is_i64 z) (bytes_eq i (signed_decimal z)) e in
-        (item_is p.text (signed_decimal z) ((bytes_decides i (signed_decimal z)).0 parts.1), parts.0))
+    let parts = and_parts (is_i64 z) (bytes_eq i (signed_decimal z)) e in
+    (item_is p.text (signed_decimal z) ((bytes_decides i (signed_decimal z)).0 parts.1), parts.0))
 
 -- ## Behind a space
 
@@ -85,7 +85,7 @@ behind_space : {A : Type 0} (t : A → List ℕ) (P : A → Type 0) (p : Place) 
 behind_space t P p each h =
     took_then (λ _ q. BeginsWith p.text (32 ∷ []) q.text) (λ x r. BeginsWith p.text (32 ∷ t x) r.text × P x) (space p) (λ _ q. each q) (space_told p)
     (λ _ q g. took_so (λ x r. BeginsWith q.text (t x) r.text × P x) (λ x r. BeginsWith p.text (32 ∷ t x) r.text × P x) (each q) (h q)
-        (λ x r f. (one_more (32 ∷ []) (t x) g f.0, f.1)))
+    (λ x r f. (one_more (32 ∷ []) (t x) g f.0, f.1)))
 
 pub number_told : (limit : ℕ) (p : Place) → IfTook (λ n q. BeginsWith p.text (32 ∷ decimal n) q.text × (n < limit)) (number limit p)
 number_told limit p = behind_space (λ n. decimal n) (λ n. n < limit) p (first_number limit) (first_number_told limit)
@@ -110,8 +110,8 @@ up_to_told t P each h zero p = (none_taken p.text, tt)
 up_to_told t P each h (suc most) p =
     took_if _ (begins_by is_space p.text) (each p into λ x q. up_to most each q into λ xs r. took (x ∷ xs) r) (took [] p)
     (λ _. took_then _ _ (each p) _ (h p)
-        (λ x q g. took_then _ _ (up_to most each q) _ (up_to_told t P each h most q)
-            (λ xs r f. (one_more (t x) (flat_map t xs) g.0 f.0, (g.1, f.1)))))
+    (λ x q g. took_then _ _ (up_to most each q) _ (up_to_told t P each h most q)
+    (λ xs r f. (one_more (t x) (flat_map t xs) g.0 f.0, (g.1, f.1)))))
     (λ _. (none_taken p.text, tt))
 
 -- P of each, with its number
@@ -126,4 +126,4 @@ exactly_told t P each h zero k p = (none_taken p.text, refl, tt)
 exactly_told t P each h (suc n) k p =
     took_then _ _ (each k p) _ (h k p)
     (λ x q g. took_then _ _ (exactly n (suc k) each q) _ (exactly_told t P each h n (suc k) q)
-        (λ xs r f. (one_more (t x) (flat_map t xs) g.0 f.0, ap suc f.1, (g.1, f.2))))
+    (λ xs r f. (one_more (t x) (flat_map t xs) g.0 f.0, ap suc f.1, (g.1, f.2))))

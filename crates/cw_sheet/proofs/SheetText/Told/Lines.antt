@@ -1,11 +1,10 @@
 -- The heading, values and limits that were taken are spelled so.
-use Rattle.std.proofs.Common.{◌≡◌, ℕ, ◌^◌, List, [], ◌∷◌, codes, length, ℤ}
+use Rattle.std.proofs.Common.{ℕ, ◌^◌, List, [], ◌∷◌, codes, length}
 use Rattle.std.specs.Fmt.{signed_decimal}
 use Rattle.std.specs.List.{AllByRecursion}
-use Rattle.cw_code.specs.declared.Limits.{Limits}
 use Rattle.cw_sheet.specs.Items.{Place, all_behind, newline, next_word, number32, number64, value, word}
 use Rattle.cw_sheet.specs.Laws.{IsValue, LimitsFit}
-use Rattle.cw_sheet.specs.Reading.{heading, last, limits, values}
+use Rattle.cw_sheet.specs.Reading.{heading, limits, values}
 use Rattle.cw_sheet.specs.SheetText.{decimals, first_line, limits_line, line, signed_decimals}
 use Rattle.cw_sheet.proofs.SheetText.Beginning.{BeginsWith, item, line_of, none, same_part, some, spaced_map}
 use Rattle.cw_sheet.proofs.SheetText.Told.Items.{line_done_told, newline_told, next_word_told, number_told, up_to_told, value_told, word_told}
@@ -35,5 +34,7 @@ limits_told p =
     (λ aborts p3 h3. took_then _ _ (number32 p3) _ (number_told (2 ^ 32) p3)
     (λ strands p4 h4. took_then _ _ (number64 p4) _ (number_told (2 ^ 64) p4)
     (λ moves p5 h5. line_done_told _ _ p5
-    (λ q f. (line_of (codes "limits") (decimals (fuel ∷ size ∷ aborts ∷ strands ∷ moves ∷ [])) h (item h1.0 (item h2.0 (item h3.0 (item h4.0 (item h5.0 none))))) f,
-        record { fuel = h1.1; size = h2.1; aborts = h3.1; strands = h4.1; moves = h5.1 }))))))))
+    (λ q f. (
+      line_of (codes "limits") (decimals (fuel ∷ size ∷ aborts ∷ strands ∷ moves ∷ [])) h (item h1.0 (item h2.0 (item h3.0 (item h4.0 (item h5.0 none))))) f,
+      record { fuel = h1.1; size = h2.1; aborts = h3.1; strands = h4.1; moves = h5.1 },
+    ))))))))

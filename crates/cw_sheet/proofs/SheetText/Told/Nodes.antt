@@ -1,10 +1,9 @@
 -- A node that was taken is spelled so, and has nothing that its line does not tell.
-use Rattle.std.proofs.Common.{◌≡◌, ℕ, ◌==◌, ◌^◌, ◌<◌, ◌≤◌, arith, ◌&&◌, ◌||◌, Bool, true, false, not, List, [], ◌∷◌, codes, length, drop, ℤ, refl, ap, sym, subst, inl, inr, IsTrue, if◌then◌else◌}
+use Rattle.std.proofs.Common.{◌≡◌, ℕ, ◌==◌, ◌^◌, ◌<◌, ◌≤◌, arith, ◌&&◌, ◌||◌, true, false, not, List, [], ◌∷◌, codes, length, ℤ, refl, ap, sym, subst, inl, inr, IsTrue}
 use Rattle.std.proofs.lemmas.Bool.{and_cases, both_ways, eqb-false, eqb-true, false≢true, not-false, or_parts, true≢false}
 use Rattle.std.proofs.lemmas.List.Elements.{All-from_recursion}
 use Rattle.std.specs.Cmp.Lexicographic.{bytes_decides}
 use Rattle.std.specs.Fmt.{decimal, signed_decimal}
-use Rattle.std.specs.List.{flat_map}
 use Rattle.std.specs.Str.{bytes_eq}
 use Rattle.cw_code.specs.declared.Back.{Back}
 use Rattle.cw_tree.specs.declared.node.Node.{Node}
@@ -12,10 +11,10 @@ use Rattle.cw_tree.specs.declared.node.Kind.{Kind}
 use Rattle.cw_tree.specs.declared.node.Kind.TheVariants.{Strand, Fork, Block, Read, Write, Out, Tried, Cancel}
 use Rattle.cw_tree.specs.declared.node.BlockState.{BlockState}
 use Rattle.cw_tree.specs.declared.node.BlockState.TheVariants.{Pending, Committed, Aborted}
-use Rattle.cw_tree.specs.Nodes.{is_block_kind, is_strand_kind, is_tried_kind}
+use Rattle.cw_tree.specs.Nodes.{is_strand_kind, is_tried_kind}
 use Rattle.cw_sheet.specs.declared.sheet.SheetKind.TheVariants.{Unexpected}
 use Rattle.cw_sheet.specs.Contents.{HasLine}
-use Rattle.cw_sheet.specs.Items.{Place, Taken, took, all_behind, behind, count, first_item, line_done, next_item, number32, number64, refuse, value}
+use Rattle.cw_sheet.specs.Items.{Place, took, all_behind, behind, count, first_item, line_done, next_item, number32, number64, refuse, value}
 use Rattle.cw_sheet.specs.Laws.{BackFits, IsValue, KindFits, NodeFits}
 use Rattle.cw_sheet.specs.Reading.{access_node, back, block_node, cancel_node, fork_node, node, node_named, other_node, out_node, state, strand_node, tried_node}
 use Rattle.cw_sheet.specs.SheetText.{access_line, back_items, node_line, spaced, state_word}
@@ -85,8 +84,10 @@ module _ (k : ℕ) (text : List ℕ) (p : Place) where
       took_then _ _ (number32 p) _ (number_told (2 ^ 32) p)
       (λ parent p1 h1. took_then _ _ (number64 p1) _ (number_told (2 ^ 64) p1)
       (λ stamp p2 h2. line_done_told _ _ p2
-      (λ q f. (line_of (codes "fork") (decimal parent ∷ decimal stamp ∷ []) h (item h1.0 (item h2.0 none)) f,
-          other_fits k parent Fork stamp (fit_stamped k parent Fork stamp refl) h1.1 h2.1 tt))))
+      (λ q f. (
+        line_of (codes "fork") (decimal parent ∷ decimal stamp ∷ []) h (item h1.0 (item h2.0 none)) f,
+        other_fits k parent Fork stamp (fit_stamped k parent Fork stamp refl) h1.1 h2.1 tt,
+      ))))
 
   access_told : (w : List ℕ) (kind : ℕ → ℤ → Kind) →
       ((parent stamp cell : ℕ) (v : ℤ) (rest : List ℕ) → BeginsWith text (access_line w parent stamp cell v) rest → BeginsWith text (node_line (other_node parent (kind cell v) stamp)) rest) →
@@ -100,9 +101,10 @@ module _ (k : ℕ) (text : List ℕ) (p : Place) where
       (λ cell p3 h3. took_then _ _ (value p3) _ (value_told p3)
       (λ v p4 h4. line_done_told _ _ p4
       (λ q f.
-          let items = decimal parent ∷ decimal stamp ∷ decimal cell ∷ signed_decimal v ∷ [] in
-          (spelled parent stamp cell v q.text (line_of w items h (item h1.0 (item h2.0 (item h3.0 (item h4.0 none)))) f),
-              other_fits k parent (kind cell v) stamp (fit_stamped k parent (kind cell v) stamp (stamped cell v)) h1.1 h2.1 (fits cell v h3.1 h4.1)))))))
+      let items = decimal parent ∷ decimal stamp ∷ decimal cell ∷ signed_decimal v ∷ [] in (
+        spelled parent stamp cell v q.text (line_of w items h (item h1.0 (item h2.0 (item h3.0 (item h4.0 none)))) f),
+        other_fits k parent (kind cell v) stamp (fit_stamped k parent (kind cell v) stamp (stamped cell v)) h1.1 h2.1 (fits cell v h3.1 h4.1),
+      ))))))
 
   out_told : BeginsWith text (codes "out") p.text → IfTook (IsNode k text) (out_node p)
   out_told h =
@@ -110,26 +112,30 @@ module _ (k : ℕ) (text : List ℕ) (p : Place) where
       (λ parent p1 h1. took_then _ _ (number64 p1) _ (number_told (2 ^ 64) p1)
       (λ stamp p2 h2. took_then _ _ (value p2) _ (value_told p2)
       (λ v p3 h3. line_done_told _ _ p3
-      (λ q f. (line_of (codes "out") (decimal parent ∷ decimal stamp ∷ signed_decimal v ∷ []) h (item h1.0 (item h2.0 (item h3.0 none))) f,
-          other_fits k parent (Out v) stamp (fit_stamped k parent (Out v) stamp refl) h1.1 h2.1 h3.1)))))
+      (λ q f. (
+        line_of (codes "out") (decimal parent ∷ decimal stamp ∷ signed_decimal v ∷ []) h (item h1.0 (item h2.0 (item h3.0 none))) f,
+        other_fits k parent (Out v) stamp (fit_stamped k parent (Out v) stamp refl) h1.1 h2.1 h3.1,
+      )))))
 
   tried_told : BeginsWith text (codes "tried") p.text → IfTook (IsNode k text) (tried_node p)
   tried_told h =
       took_then _ _ (number32 p) _ (number_told (2 ^ 32) p)
       (λ parent p1 h1. took_then _ _ (number32 p1) _ (number_told (2 ^ 32) p1)
       (λ cell p2 h2. line_done_told _ _ p2
-      (λ q f. (line_of (codes "tried") (decimal parent ∷ decimal cell ∷ []) h (item h1.0 (item h2.0 none)) f,
-          other_fits k parent (Tried cell) 0 (fit_tried k parent cell) h1.1 (omega arith) h2.1))))
+      (λ q f. (
+        line_of (codes "tried") (decimal parent ∷ decimal cell ∷ []) h (item h1.0 (item h2.0 none)) f,
+        other_fits k parent (Tried cell) 0 (fit_tried k parent cell) h1.1 (omega arith) h2.1,
+      ))))
 
 -- the state of a block
 state_told : (p : Place) → IfTook (λ s q. BeginsWith p.text (32 ∷ state_word s) q.text) (state p)
 state_told p =
     took_then _ _ (next_item p) _ (next_item_told p)
     (λ i q h.
-        let is = λ (w : List ℕ) (e : bytes_eq i w ≡ true). same_part (32 ∷ w) (ap (λ j. 32 ∷ j) ((bytes_decides i w).0 e)) h in
-        took_if _ (bytes_eq i (state_word Pending)) _ _ (λ e. is (state_word Pending) e)
-        (λ _. took_if _ (bytes_eq i (state_word Committed)) _ _ (λ e. is (state_word Committed) e)
-        (λ _. took_if _ (bytes_eq i (state_word Aborted)) (took Aborted q) (refuse Unexpected q) (λ e. is (state_word Aborted) e) (λ _. tt))))
+    let is = λ (w : List ℕ) (e : bytes_eq i w ≡ true). same_part (32 ∷ w) (ap (λ j. 32 ∷ j) ((bytes_decides i w).0 e)) h in
+    took_if _ (bytes_eq i (state_word Pending)) _ _ (λ e. is (state_word Pending) e)
+    (λ _. took_if _ (bytes_eq i (state_word Committed)) _ _ (λ e. is (state_word Committed) e)
+    (λ _. took_if _ (bytes_eq i (state_word Aborted)) (took Aborted q) (refuse Unexpected q) (λ e. is (state_word Aborted) e) (λ _. tt))))
 
 -- a cell and its value
 back_told : (p : Place) → IfTook (λ b q. BeginsWith p.text (spaced (decimal b.cell ∷ signed_decimal b.value ∷ [])) q.text × BackFits b) (back p)
@@ -146,8 +152,10 @@ module _ (k : ℕ) (text : List ℕ) (p : Place) where
       (λ stamp p2 h2. took_then _ _ (state p2) _ (state_told p2)
       (λ s p3 h3. took_then _ _ (number64 p3) _ (number_told (2 ^ 64) p3)
       (λ e p4 h4. line_done_told _ _ p4
-      (λ q f. (line_of (codes "block") (decimal parent ∷ decimal stamp ∷ state_word s ∷ decimal e ∷ []) h (item h1.0 (item h2.0 (item h3 (item h4.0 none)))) f,
-          record { fit = fit_block k parent stamp s e; range = record { parent = h1.1; stamp = h2.1; end = h4.1; kind = tt } }))))))
+      (λ q f. (
+        line_of (codes "block") (decimal parent ∷ decimal stamp ∷ state_word s ∷ decimal e ∷ []) h (item h1.0 (item h2.0 (item h3 (item h4.0 none)))) f,
+        record { fit = fit_block k parent stamp s e; range = record { parent = h1.1; stamp = h2.1; end = h4.1; kind = tt } },
+      ))))))
 
   cancel_told : BeginsWith text (codes "cancel") p.text → IfTook (IsNode k text) (cancel_node p)
   cancel_told h =
@@ -158,12 +166,13 @@ module _ (k : ℕ) (text : List ℕ) (p : Place) where
       (λ backs p4 h4. took_if _ (length backs == n) (line_done (other_node parent (Cancel backs) stamp) p4) (refuse Unexpected p4)
       (λ e. line_done_told _ _ p4
       (λ q f.
-          let same : length backs ≡ n = eqb-true (length backs) n e in
-          let counted = subst (λ m. BeginsWith p2.text (32 ∷ decimal m) p3.text) (sym same) h3.0 in
-          let listed = same_part (spaced (back_items backs)) (spaced_flat (λ (b : Back). decimal b.cell ∷ signed_decimal b.value ∷ []) backs) h4.0 in
-          let few : length backs ≤ 100000000 = (let low : n < 100000001 = h3.1 in omega arith) in
-          (line_of (codes "cancel") (decimal parent ∷ decimal stamp ∷ decimal (length backs) ∷ back_items backs) h (item h1.0 (item h2.0 (item counted (some listed)))) f,
-              other_fits k parent (Cancel backs) stamp (fit_stamped k parent (Cancel backs) stamp refl) h1.1 h2.1 (few, All-from_recursion BackFits backs h4.1))))
+      let same : length backs ≡ n = eqb-true (length backs) n e in
+      let counted = subst (λ m. BeginsWith p2.text (32 ∷ decimal m) p3.text) (sym same) h3.0 in
+      let listed = same_part (spaced (back_items backs)) (spaced_flat (λ (b : Back). decimal b.cell ∷ signed_decimal b.value ∷ []) backs) h4.0 in
+      let few : length backs ≤ 100000000 = (let low : n < 100000001 = h3.1 in omega arith) in (
+        line_of (codes "cancel") (decimal parent ∷ decimal stamp ∷ decimal (length backs) ∷ back_items backs) h (item h1.0 (item h2.0 (item counted (some listed)))) f,
+        other_fits k parent (Cancel backs) stamp (fit_stamped k parent (Cancel backs) stamp refl) h1.1 h2.1 (few, All-from_recursion BackFits backs h4.1),
+      )))
       (λ _. tt)))))
 
   -- what the first word of the line says
@@ -174,9 +183,9 @@ module _ (k : ℕ) (text : List ℕ) (p : Place) where
       (λ _. took_if _ (bytes_eq w (codes "fork")) _ _ (λ e. fork_told k text p (is (codes "fork") e))
       (λ _. took_if _ (bytes_eq w (codes "block")) _ _ (λ e. block_told (is (codes "block") e))
       (λ _. took_if _ (bytes_eq w (codes "read")) _ _
-          (λ e. access_told k text p (codes "read") (λ c v. Read c v) (λ parent stamp c v rest g. g) (λ _ _. refl) (λ c v low fit. (low, fit)) (is (codes "read") e))
+      (λ e. access_told k text p (codes "read") (λ c v. Read c v) (λ parent stamp c v rest g. g) (λ _ _. refl) (λ c v low fit. (low, fit)) (is (codes "read") e))
       (λ _. took_if _ (bytes_eq w (codes "write")) _ _
-          (λ e. access_told k text p (codes "write") (λ c v. Write c v) (λ parent stamp c v rest g. g) (λ _ _. refl) (λ c v low fit. (low, fit)) (is (codes "write") e))
+      (λ e. access_told k text p (codes "write") (λ c v. Write c v) (λ parent stamp c v rest g. g) (λ _ _. refl) (λ c v low fit. (low, fit)) (is (codes "write") e))
       (λ _. took_if _ (bytes_eq w (codes "out")) _ _ (λ e. out_told k text p (is (codes "out") e))
       (λ _. took_if _ (bytes_eq w (codes "tried")) _ _ (λ e. tried_told k text p (is (codes "tried") e))
       (λ _. took_if _ (bytes_eq w (codes "cancel")) (cancel_node p) (refuse Unexpected p) (λ e. cancel_told (is (codes "cancel") e)) (λ _. tt))))))))

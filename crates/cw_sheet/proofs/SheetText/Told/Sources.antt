@@ -1,18 +1,16 @@
 -- A source that was taken has a text, and was taken from it.
-use Rattle.std.proofs.Common.{◌≡◌, ℕ, ◌≤◌, ◌&&◌, Bool, true, false, nat_lt, cond, if◌then◌else◌, List, [], ◌∷◌, ◌++◌, codes, length, take, drop, Option, Some, None, is_none, Result, Ok, Err, refl, ap, sym, subst, ◌∙◌, arith, le_refl, length-take, take-append-drop}
+use Rattle.std.proofs.Common.{◌≡◌, ℕ, ◌≤◌, Bool, true, false, nat_lt, if◌then◌else◌, List, [], ◌∷◌, ◌++◌, codes, length, take, drop, Option, Some, None, is_none, Result, Ok, Err, refl, ap, sym, subst, ◌∙◌, arith, le_refl, length-take, take-append-drop}
 use Rattle.std.proofs.lemmas.Bool.{and_parts, false≢true, le-ltb, ltb-false}
 use Rattle.std.specs.Cmp.Lexicographic.{bytes_decides}
 use Rattle.std.specs.Fmt.{decimal}
 use Rattle.std.specs.Str.{bytes_eq}
-use Rattle.std.specs.Str.Lossy.{utf8_valid_len}
 use Rattle.cw_text.specs.declared.fault.TextFault.{TextFault}
-use Rattle.cw_text.specs.Lexemes.{keywords, lexemes}
 use Rattle.cw_text.specs.PrintedText.{printed_text}
 use Rattle.cw_text.specs.Syntax.{Source}
 use Rattle.cw_text.specs.Text.{reading}
 use Rattle.cw_strand.specs.Names.{naming_fault}
 use Rattle.cw_sheet.specs.Contents.{HasSourceText}
-use Rattle.cw_sheet.specs.Items.{Place, Taken, took, count, word}
+use Rattle.cw_sheet.specs.Items.{Place, took, count, word}
 use Rattle.cw_sheet.specs.Reading.{behind_lines, canonical, is_canonical, longest_source, source, source_of_length}
 use Rattle.cw_sheet.specs.SheetText.{decimals, line}
 use Rattle.cw_sheet.proofs.SheetText.Beginning.{BeginsWith, item, line_of, none}
@@ -43,11 +41,11 @@ canonical_told P l text (Err f) q read h = tt
 canonical_told P l text (Ok s) q read h =
     took_if P (is_canonical text s) (took s q) _
     (λ e.
-        let parts = and_parts (is_none (naming_fault s.items)) (bytes_eq (printed_text s) text) e in
-        let same = (bytes_decides (printed_text s) text).0 parts.1 in
-        let again = bound_otherwise 2 longest_source (length text) text s (le_refl (length text)) read in
-        let short = ltb-false longest_source (length text) (not_too_long (nat_lt longest_source (length text)) _ _ s read).0 in
-        h s same (omega (arith, ap length same)) (record { read = (s, subst (λ t. reading 2 (length t) t ≡ Ok s) (sym same) again, refl, refl); named = none_is (naming_fault s.items) parts.0 }))
+    let parts = and_parts (is_none (naming_fault s.items)) (bytes_eq (printed_text s) text) e in
+    let same = (bytes_decides (printed_text s) text).0 parts.1 in
+    let again = bound_otherwise 2 longest_source (length text) text s (le_refl (length text)) read in
+    let short = ltb-false longest_source (length text) (not_too_long (nat_lt longest_source (length text)) _ _ s read).0 in
+    h s same (omega (arith, ap length same)) (record { read = (s, subst (λ t. reading 2 (length t) t ≡ Ok s) (sym same) again, refl, refl); named = none_is (naming_fault s.items) parts.0 }))
     (λ _. tt)
 
 -- the source has n bytes, which come first
@@ -61,12 +59,12 @@ sized_told : (n l : ℕ) (p : Place) → IfTook (λ s q. IsSized n p.text s q.te
 sized_told n l p =
     took_if _ (nat_lt (length p.text) n) _ (canonical l (take n p.text) (reading 2 longest_source (take n p.text)) (behind_lines n p)) (λ _. tt)
     (λ short. canonical_told (λ s q. IsSized n p.text s q.text) l (take n p.text) (reading 2 longest_source (take n p.text)) (behind_lines n p) refl
-        (λ s same few has. record {
-          size = (let enough : n ≤ length p.text = ltb-false (length p.text) n short in omega (arith, ap length same, length-take n p.text));
-          spelled = record { is = sym (take-append-drop n p.text) ∙ ap (λ t. t ++ drop n p.text) (sym same) };
-          few = few;
-          has = has;
-        }))
+    (λ s same few has. record {
+      size = (let enough : n ≤ length p.text = ltb-false (length p.text) n short in omega (arith, ap length same, length-take n p.text));
+      spelled = record { is = sym (take-append-drop n p.text) ∙ ap (λ t. t ++ drop n p.text) (sym same) };
+      few = few;
+      has = has;
+    }))
 
 -- ## With the line before it
 
@@ -85,5 +83,5 @@ source_told p =
     (λ n p2 h1. done_then _ n p2 (λ n q. source_of_length n p.line q)
     (λ p3 h2. took_so _ _ (source_of_length n p.line p3) (sized_told n p.line p3)
     (λ s q g.
-        let counted = subst (λ m. BeginsWith p1.text (32 ∷ decimal m) p2.text) (sym g.size) h1.0 in
-        record { middle = p3.text; sized = line_of (codes "source") (decimals (length (printed_text s) ∷ [])) h (item counted none) h2; spelled = g.spelled; few = g.few; has = g.has }))))
+    let counted = subst (λ m. BeginsWith p1.text (32 ∷ decimal m) p2.text) (sym g.size) h1.0 in
+    record { middle = p3.text; sized = line_of (codes "source") (decimals (length (printed_text s) ∷ [])) h (item counted none) h2; spelled = g.spelled; few = g.few; has = g.has }))))

@@ -1,12 +1,12 @@
 -- A tree without a misplaced node is a tree, and the other way round.
-use Rattle.std.proofs.Common.{◌≡◌, ℕ, zero, suc, ◌+◌, ◌<◌, ◌&&◌, ◌||◌, Bool, true, false, not, cond, nat_lt, List, [], ◌∷◌, length, Option, Some, None, refl, ap, sym, subst, ◌∙◌, arith, inl, inr, ◌⊎◌, IsTrue, find}
-use Rattle.std.proofs.lemmas.Bool.{and_from, and_parts, both_ways, false≢true, lt-ltb, ltb-true, not_from_false, not_from_true, not-false, not-true, or_cases, or_left, or_right}
+use Rattle.std.proofs.Common.{◌≡◌, ℕ, zero, suc, ◌<◌, ◌&&◌, ◌||◌, Bool, true, false, not, cond, nat_lt, List, [], ◌∷◌, length, Option, Some, None, refl, ap, ◌∙◌, arith, inl, inr, ◌⊎◌, IsTrue, find}
+use Rattle.std.proofs.lemmas.Bool.{and_parts, both_ways, false≢true, ltb-true, not-false, not-true, or_cases}
 use Rattle.cw_tree.specs.declared.node.Node.{Node}
 use Rattle.cw_tree.specs.Nodes.{all_nodes, is_block, is_fork, is_strand, parent_of}
 use Rattle.cw_tree.specs.Series.{children}
 use Rattle.cw_tree.specs.Shape.{IsTree}
 use Rattle.cw_tree.proofs.Lists.{In}
-use Rattle.cw_tree.proofs.Members.{below_in, in_below}
+use Rattle.cw_tree.proofs.Members.{below_in}
 use Rattle.cw_sheet.specs.Reading.{are_two_strands, hangs_well, is_misplaced, misplaced}
 
 -- ## Finding none

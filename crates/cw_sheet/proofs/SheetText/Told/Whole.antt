@@ -1,5 +1,5 @@
 -- What is read has a text, and was read from it.
-use Rattle.std.proofs.Common.{◌≡◌, ℕ, suc, ◌≤◌, Bool, true, nat_lt, List, [], ◌∷◌, ◌++◌, codes, length, Option, Some, None, Result, Ok, Err, refl, ap, sym, subst, ◌∙◌, IsTrue, All}
+use Rattle.std.proofs.Common.{◌≡◌, ℕ, suc, ◌≤◌, nat_lt, List, [], ◌∷◌, ◌++◌, codes, length, Option, Some, None, Ok, refl, ap, sym, subst, ◌∙◌, IsTrue, All}
 use Rattle.std.proofs.lemmas.Bool.{cond_both, ltb-false}
 use Rattle.std.proofs.lemmas.List.Elements.{All-cons, All-from_recursion, All-nil}
 use Rattle.std.specs.Str.Lossy.{utf8_valid_len}
@@ -7,18 +7,18 @@ use Rattle.cw_text.specs.PrintedText.{printed_text}
 use Rattle.cw_text.specs.Syntax.{Source}
 use Rattle.cw_tree.specs.declared.node.Node.{Node}
 use Rattle.cw_tree.specs.Nodes.{is_strand, parent_of}
-use Rattle.cw_sheet.specs.Contents.{Contents, HasLine, HasSourceText, HasText}
+use Rattle.cw_sheet.specs.Contents.{Contents, HasLine, HasSourceText}
 use Rattle.cw_sheet.specs.Items.{Place, Taken, took, refused}
 use Rattle.cw_sheet.specs.Laws.{ConflictFits, IsInRange, IsTextOf, IsValue, NodeFits, ReadIsText}
 use Rattle.cw_sheet.specs.Reading.{behind_source, conflicts, contents_from, heading, judged_sheet, last, limits, longest_source, misplaced, nodes, run_end, source, values, with_tree}
-use Rattle.cw_sheet.specs.SheetText.{after_source, before_source, conflicts_part, decimals, end_part, first_line, last_line, limits_line, line, nodes_part, sheet_text, words_line}
+use Rattle.cw_sheet.specs.SheetText.{before_source, conflicts_part, decimals, end_part, first_line, last_line, limits_line, line, nodes_part, sheet_text, words_line}
 use Rattle.cw_sheet.proofs.SheetText.Beginning.{BeginsWith, one_more}
 use Rattle.cw_sheet.proofs.SheetText.Told.Ends.{conflicts_told, last_told, nodes_told, run_end_told}
 use Rattle.cw_sheet.proofs.SheetText.Told.Items.{AllFrom}
 use Rattle.cw_sheet.proofs.SheetText.Told.Lines.{heading_told, limits_told, values_told}
 use Rattle.cw_sheet.proofs.SheetText.Told.Nodes.{IsReadable}
 use Rattle.cw_sheet.proofs.SheetText.Told.Sources.{source_told}
-use Rattle.cw_sheet.proofs.SheetText.Told.Taking.{IfTook, took_so, took_then}
+use Rattle.cw_sheet.proofs.SheetText.Told.Taking.{IfTook, took_then}
 use Rattle.cw_sheet.proofs.SheetText.Told.Trees.{tree_told}
 
 -- the text is that of the contents, which have one if their tree is a tree
@@ -42,33 +42,33 @@ behind_told text s p begun fits has =
     (λ ks p4 h4. took_then _ _ (run_end p4) _ (run_end_told p4)
     (λ e p5 h5. took_then _ _ (last p5) _ (last_told p5)
     (λ _ q h6.
-        let w = words_line words in
-        let wl = w ++ limits_line l in
-        let wln = wl ++ nodes_part tree in
-        let wlnk = wln ++ conflicts_part ks in
-        let parts = one_more wlnk (end_part e) (one_more wln (conflicts_part ks) (one_more wl (nodes_part tree) (one_more w (limits_line l) h1.0 h2.0) h3.0) h4.0) h5.0 in
-        let behind : p.text ≡ wlnk ++ end_part e ++ last_line = parts.is ∙ ap (λ r. wlnk ++ end_part e ++ r) h6 in
-        record {
-          spelled = begun.is ∙ ap (λ r. before_source (length (printed_text s)) ++ printed_text s ++ r) behind;
-          source = has;
-          nodes = h3.2;
-          range = record {
-            source = fits;
-            words = All-from_recursion IsValue words h1.1;
-            limits = h2.1;
-            nodes = (h3.1, all_from NodeFits 0 tree (λ j x read. read.range) h3.2);
-            conflicts = (h4.1, All-from_recursion ConflictFits ks h4.2);
-            end = h5.1;
-          };
-        }))))))
+    let w = words_line words in
+    let wl = w ++ limits_line l in
+    let wln = wl ++ nodes_part tree in
+    let wlnk = wln ++ conflicts_part ks in
+    let parts = one_more wlnk (end_part e) (one_more wln (conflicts_part ks) (one_more wl (nodes_part tree) (one_more w (limits_line l) h1.0 h2.0) h3.0) h4.0) h5.0 in
+    let behind : p.text ≡ wlnk ++ end_part e ++ last_line = parts.is ∙ ap (λ r. wlnk ++ end_part e ++ r) h6 in
+    record {
+      spelled = begun.is ∙ ap (λ r. before_source (length (printed_text s)) ++ printed_text s ++ r) behind;
+      source = has;
+      nodes = h3.2;
+      range = record {
+        source = fits;
+        words = All-from_recursion IsValue words h1.1;
+        limits = h2.1;
+        nodes = (h3.1, all_from NodeFits 0 tree (λ j x read. read.range) h3.2);
+        conflicts = (h4.1, All-from_recursion ConflictFits ks h4.2);
+        end = h5.1;
+      };
+    }))))))
 
 contents_told : (p : Place) → IfTook (λ c q. IsTold p.text c.0) (contents_from p)
 contents_told p =
     took_then _ _ (heading p) _ (heading_told p)
     (λ _ p1 h. took_then _ _ (source p1) _ (source_told p1)
     (λ s p2 g.
-        let sized = line (codes "source") (decimals (length (printed_text s) ∷ [])) in
-        behind_told p.text s p2 (one_more (first_line ++ sized) (printed_text s) (one_more first_line sized h g.sized) g.spelled) g.few g.has))
+    let sized = line (codes "source") (decimals (length (printed_text s) ∷ [])) in
+    behind_told p.text s p2 (one_more (first_line ++ sized) (printed_text s) (one_more first_line sized h g.sized) g.spelled) g.few g.has))
 
 -- ## The contract of what was read
 
