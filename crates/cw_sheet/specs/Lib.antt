@@ -4,3 +4,4 @@ pub mod Items
 pub mod Reading
 pub mod Laws
 pub mod Worked
+pub mod WorkedReading

@@ -1,4 +1,5 @@
 ghost use Rattle.cw_sheet.specs.Laws.{ReadIsText, TextIsRead};
+ghost use Rattle.cw_sheet.specs.WorkedReading.{WholeTexts};
 
 /// Law: a text is the text of what it is read as. So no sheet is read from two texts: blanks and numbers have one spelling.
 pub fn read_is_text()
@@ -9,4 +10,9 @@ pub fn read_is_text()
 /// the text is not too long.
 pub fn text_is_read()
     ensures { TextIsRead }
+{}
+
+/// Examples: whole texts, and what they are read as.
+pub fn worked_readings()
+    ensures { WholeTexts }
 {}

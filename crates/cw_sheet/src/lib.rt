@@ -12,7 +12,7 @@ mod parts;
 mod sheet;
 mod writing;
 
-pub use laws::{read_is_text, text_is_read};
+pub use laws::{read_is_text, text_is_read, worked_readings};
 pub use sheet::{Sheet, SheetFault, SheetKind, SheetRefusal};
 pub use writing::sheet_text;
 

@@ -55,7 +55,7 @@ read_is_utf8 newest most text s =
 
 -- ## ASCII
 
-letters : (bs : List ℕ) → list_all (λ b. nat_lt b 128) bs ≡ true → IsAscii bs
+pub letters : (bs : List ℕ) → list_all (λ b. nat_lt b 128) bs ≡ true → IsAscii bs
 letters [] h = IsAscii-nil
 letters (b ∷ bs) h = let parts = and_parts (nat_lt b 128) (list_all (λ b. nat_lt b 128) bs) h in IsAscii-cons b bs (ltb-true b 128 parts.0) (letters bs parts.1)
 

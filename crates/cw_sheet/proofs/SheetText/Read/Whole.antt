@@ -102,7 +102,7 @@ text_reads c has range =
 judged_reads : (r : Taken (Contents × ℕ)) (c : Contents) → Reads r c → misplaced c.tree ≡ None → judged_sheet r ≡ Ok c
 judged_reads r c h well = ap judged_sheet h.is ∙ ap (λ o. with_tree h.nodes_line o c) well
 
-reading_is : (text : List ℕ) (c : Contents) → length text ≤ 67108864 → IsUtf8 text → judged_sheet (contents_from (on_line 1 text)) ≡ Ok c → sheet_reading text ≡ Ok c
+pub reading_is : (text : List ℕ) (c : Contents) → length text ≤ 67108864 → IsUtf8 text → judged_sheet (contents_from (on_line 1 text)) ≡ Ok c → sheet_reading text ≡ Ok c
 reading_is text c short whole h = rw (le-ltb 67108864 (length text) short, utf8_valid_len-IsUtf8 text whole, le-ltb (length text) (length text) (le_refl (length text))) h
 
 own_text_is_read : (c : Contents) → HasText c → IsInRange c → length (sheet_text c) ≤ 67108864 → IsSheetReadAs (sheet_reading (sheet_text c)) c
