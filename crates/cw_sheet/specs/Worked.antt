@@ -10,9 +10,10 @@ use Rattle.cw_code.specs.declared.Back.{Back}
 use Rattle.cw_code.specs.declared.FaultKind.TheVariants.{Fuel}
 use Rattle.cw_code.specs.declared.Limits.{Limits}
 use Rattle.cw_tree.specs.declared.node.Node.{Node}
-use Rattle.cw_tree.specs.declared.node.Kind.TheVariants.{Strand, Read, Write, Out, Cancel}
+use Rattle.cw_tree.specs.declared.node.Kind.TheVariants.{Strand, Read, Write, Out, Tried, Cancel}
 use Rattle.cw_tree.specs.Worked.{plain}
 use Rattle.cw_tree.specs.WorkedRun.{refused_write, two_blocks}
+use Rattle.cw_record.specs.declared.record_end.RecordEnd.{RecordEnd}
 use Rattle.cw_record.specs.declared.record_end.RecordEnd.TheVariants.{Finished, Fault, Budget, Moves}
 use Rattle.cw_sheet.specs.declared.sheet.SheetKind.{SheetKind}
 use Rattle.cw_sheet.specs.declared.sheet.SheetKind.TheVariants.{Unexpected, BadNumber, BadTree, BadSource}
@@ -20,7 +21,7 @@ use Rattle.cw_sheet.specs.declared.sheet.SheetFault.{SheetFault}
 use Rattle.cw_sheet.specs.Contents.{Contents}
 use Rattle.cw_sheet.specs.Items.{Place, Taken, took, refused}
 use Rattle.cw_sheet.specs.Reading.{behind_source, cancel_node, canonical, heading, judged_sheet, source}
-use Rattle.cw_sheet.specs.SheetText.{conflicts_part, end_part, line, node_line, nodes_part, sheet_text, words_line}
+use Rattle.cw_sheet.specs.SheetText.{conflicts_part, end_part, limits_line, line, node_line, nodes_part, sheet_text, words_line}
 
 abbrev pub lines : List (List ℕ) → List ℕ
 lines texts = flat_map (λ text. text ++ 10 ∷ []) texts
