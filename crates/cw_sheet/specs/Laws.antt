@@ -2,6 +2,7 @@
 use Rattle.std.specs.Prelude.{◌≡◌, ℕ, ◌^◌, ◌<◌, ◌≤◌, All, IsTrue, List, length, ℤ, Result, Ok, ⊤}
 use Rattle.cw_text.specs.PrintedText.{printed_text}
 use Rattle.cw_text.specs.Syntax.{Source}
+use Rattle.cw_text.specs.Text.{reading}
 use Rattle.cw_text.specs.WithoutLines.{tree_without_lines}
 use Rattle.cw_code.specs.declared.Back.{Back}
 use Rattle.cw_code.specs.declared.Limits.{Limits}
@@ -91,9 +92,13 @@ pub record IsTextOf (text : List ℕ) (c : Contents) : Type 0 where
   pub spelled : sheet_text c ≡ text
   pub short : length text ≤ 67108864
 
+-- The source has the lines of its own text.
+abbrev pub HasOwnLines : Source → Type 0
+HasOwnLines s = reading 2 longest_source (printed_text s) ≡ Ok s
+
 -- A text is the text of what it is read as.
 abbrev pub ReadIsText : Type 0
-ReadIsText = (text : List ℕ) (c : Contents) → sheet_reading text ≡ Ok c → IsTextOf text c
+ReadIsText = (text : List ℕ) (c : Contents) → sheet_reading text ≡ Ok c → IsTextOf text c × HasOwnLines c.source
 
 -- These contents were read, except for the lines in their source.
 abbrev pub IsSheetReadAs : Result Contents SheetFault → Contents → Type 0

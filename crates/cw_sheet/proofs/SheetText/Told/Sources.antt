@@ -11,6 +11,7 @@ use Rattle.cw_text.specs.Text.{reading}
 use Rattle.cw_strand.specs.Names.{naming_fault}
 use Rattle.cw_sheet.specs.Contents.{HasSourceText}
 use Rattle.cw_sheet.specs.Items.{Place, took, count, word}
+use Rattle.cw_sheet.specs.Laws.{HasOwnLines}
 use Rattle.cw_sheet.specs.Reading.{behind_lines, canonical, is_canonical, longest_source, source, source_of_length}
 use Rattle.cw_sheet.specs.SheetText.{decimals, line}
 use Rattle.cw_sheet.proofs.SheetText.Beginning.{BeginsWith, item, line_of, none}
@@ -35,8 +36,14 @@ none_is : {A : Type 0} (o : Option A) → is_none o ≡ true → o ≡ None
 none_is None e = refl
 none_is (Some x) e = absurd (false≢true e)
 
+-- what is true of a source that was read
+pub record IsReadSource (s : Source) : Type 0 where
+  pub few : length (printed_text s) ≤ longest_source
+  pub has : HasSourceText s
+  pub own : HasOwnLines s
+
 canonical_told : (P : Source → Place → Type 0) (l : ℕ) (text : List ℕ) (r : Result Source TextFault) (q : Place) → reading 2 longest_source text ≡ r →
-    ((s : Source) → printed_text s ≡ text → length (printed_text s) ≤ longest_source → HasSourceText s → P s q) → IfTook P (canonical l text r q)
+    ((s : Source) → printed_text s ≡ text → IsReadSource s → P s q) → IfTook P (canonical l text r q)
 canonical_told P l text (Err f) q read h = tt
 canonical_told P l text (Ok s) q read h =
     took_if P (is_canonical text s) (took s q) _
@@ -45,25 +52,27 @@ canonical_told P l text (Ok s) q read h =
     let same = (bytes_decides (printed_text s) text).0 parts.1 in
     let again = bound_otherwise 2 longest_source (length text) text s (le_refl (length text)) read in
     let short = ltb-false longest_source (length text) (not_too_long (nat_lt longest_source (length text)) _ _ s read).0 in
-    h s same (omega (arith, ap length same)) (record { read = (s, subst (λ t. reading 2 (length t) t ≡ Ok s) (sym same) again, refl, refl); named = none_is (naming_fault s.items) parts.0 }))
+    h s same (record {
+      few = omega (arith, ap length same);
+      has = record { read = (s, subst (λ t. reading 2 (length t) t ≡ Ok s) (sym same) again, refl, refl); named = none_is (naming_fault s.items) parts.0 };
+      own = subst (λ t. reading 2 longest_source t ≡ Ok s) (sym same) read;
+    }))
     (λ _. tt)
 
 -- the source has n bytes, which come first
 record IsSized (n : ℕ) (text : List ℕ) (s : Source) (rest : List ℕ) : Type 0 where
   size : length (printed_text s) ≡ n
   spelled : BeginsWith text (printed_text s) rest
-  few : length (printed_text s) ≤ longest_source
-  has : HasSourceText s
+  source : IsReadSource s
 
 sized_told : (n l : ℕ) (p : Place) → IfTook (λ s q. IsSized n p.text s q.text) (source_of_length n l p)
 sized_told n l p =
     took_if _ (nat_lt (length p.text) n) _ (canonical l (take n p.text) (reading 2 longest_source (take n p.text)) (behind_lines n p)) (λ _. tt)
     (λ short. canonical_told (λ s q. IsSized n p.text s q.text) l (take n p.text) (reading 2 longest_source (take n p.text)) (behind_lines n p) refl
-    (λ s same few has. record {
+    (λ s same read. record {
       size = (let enough : n ≤ length p.text = ltb-false (length p.text) n short in omega (arith, ap length same, length-take n p.text));
       spelled = record { is = sym (take-append-drop n p.text) ∙ ap (λ t. t ++ drop n p.text) (sym same) };
-      few = few;
-      has = has;
+      source = read;
     }))
 
 -- ## With the line before it
@@ -73,8 +82,7 @@ pub record IsSource (text : List ℕ) (s : Source) (rest : List ℕ) : Type 0 wh
   pub middle : List ℕ
   pub sized : BeginsWith text (line (codes "source") (decimals (length (printed_text s) ∷ []))) middle
   pub spelled : BeginsWith middle (printed_text s) rest
-  pub few : length (printed_text s) ≤ longest_source
-  pub has : HasSourceText s
+  pub source : IsReadSource s
 
 pub source_told : (p : Place) → IfTook (λ s q. IsSource p.text s q.text) (source p)
 source_told p =
@@ -84,4 +92,4 @@ source_told p =
     (λ p3 h2. took_so _ _ (source_of_length n p.line p3) (sized_told n p.line p3)
     (λ s q g.
     let counted = subst (λ m. BeginsWith p1.text (32 ∷ decimal m) p2.text) (sym g.size) h1.0 in
-    record { middle = p3.text; sized = line_of (codes "source") (decimals (length (printed_text s) ∷ [])) h (item counted none) h2; spelled = g.spelled; few = g.few; has = g.has }))))
+    record { middle = p3.text; sized = line_of (codes "source") (decimals (length (printed_text s) ∷ [])) h (item counted none) h2; spelled = g.spelled; source = g.source }))))

@@ -7,24 +7,24 @@ use Rattle.cw_text.specs.PrintedText.{printed_text}
 use Rattle.cw_text.specs.Syntax.{Source}
 use Rattle.cw_tree.specs.declared.node.Node.{Node}
 use Rattle.cw_tree.specs.Nodes.{is_strand, parent_of}
-use Rattle.cw_sheet.specs.Contents.{Contents, HasLine, HasSourceText}
+use Rattle.cw_sheet.specs.Contents.{Contents, HasLine}
 use Rattle.cw_sheet.specs.Items.{Place, Taken, took, refused}
-use Rattle.cw_sheet.specs.Laws.{ConflictFits, IsInRange, IsTextOf, IsValue, NodeFits, ReadIsText}
-use Rattle.cw_sheet.specs.Reading.{behind_source, conflicts, contents_from, heading, judged_sheet, last, limits, longest_source, misplaced, nodes, run_end, source, values, with_tree}
+use Rattle.cw_sheet.specs.Laws.{ConflictFits, HasOwnLines, IsInRange, IsTextOf, IsValue, NodeFits, ReadIsText}
+use Rattle.cw_sheet.specs.Reading.{behind_source, conflicts, contents_from, heading, judged_sheet, last, limits, misplaced, nodes, run_end, source, values, with_tree}
 use Rattle.cw_sheet.specs.SheetText.{before_source, conflicts_part, decimals, end_part, first_line, last_line, limits_line, line, nodes_part, sheet_text, words_line}
 use Rattle.cw_sheet.proofs.SheetText.Beginning.{BeginsWith, one_more}
 use Rattle.cw_sheet.proofs.SheetText.Told.Ends.{conflicts_told, last_told, nodes_told, run_end_told}
 use Rattle.cw_sheet.proofs.SheetText.Told.Items.{AllFrom}
 use Rattle.cw_sheet.proofs.SheetText.Told.Lines.{heading_told, limits_told, values_told}
 use Rattle.cw_sheet.proofs.SheetText.Told.Nodes.{IsReadable}
-use Rattle.cw_sheet.proofs.SheetText.Told.Sources.{source_told}
+use Rattle.cw_sheet.proofs.SheetText.Told.Sources.{IsReadSource, source_told}
 use Rattle.cw_sheet.proofs.SheetText.Told.Taking.{IfTook, took_then}
 use Rattle.cw_sheet.proofs.SheetText.Told.Trees.{tree_told}
 
 -- the text is that of the contents, which have one if their tree is a tree
 record IsTold (text : List ℕ) (c : Contents) : Type 0 where
   spelled : text ≡ sheet_text c
-  source : HasSourceText c.source
+  source : IsReadSource c.source
   nodes : AllFrom IsReadable 0 c.tree
   range : IsInRange c
 
@@ -32,9 +32,9 @@ all_from : (P : Node → Type 0) (k : ℕ) (xs : List Node) → ((j : ℕ) (x : 
 all_from P k [] f h = All-nil P
 all_from P k (x ∷ xs) f h = All-cons P x xs (f k x h.0) (all_from P (suc k) xs f h.1)
 
-behind_told : (text : List ℕ) (s : Source) (p : Place) → BeginsWith text (before_source (length (printed_text s)) ++ printed_text s) p.text → length (printed_text s) ≤ longest_source → HasSourceText s →
+behind_told : (text : List ℕ) (s : Source) (p : Place) → BeginsWith text (before_source (length (printed_text s)) ++ printed_text s) p.text → IsReadSource s →
     IfTook (λ c q. IsTold text c.0) (behind_source s p)
-behind_told text s p begun fits has =
+behind_told text s p begun read =
     took_then _ _ (values (codes "words") p) _ (values_told (codes "words") p)
     (λ words p1 h1. took_then _ _ (limits p1) _ (limits_told p1)
     (λ l p2 h2. took_then _ _ (nodes p2) _ (nodes_told p2)
@@ -50,13 +50,13 @@ behind_told text s p begun fits has =
     let behind : p.text ≡ wlnk ++ end_part e ++ last_line = parts.is ∙ ap (λ r. wlnk ++ end_part e ++ r) h6 in
     record {
       spelled = begun.is ∙ ap (λ r. before_source (length (printed_text s)) ++ printed_text s ++ r) behind;
-      source = has;
+      source = read;
       nodes = h3.2;
       range = record {
-        source = fits;
+        source = read.few;
         words = All-from_recursion IsValue words h1.1;
         limits = h2.1;
-        nodes = (h3.1, all_from NodeFits 0 tree (λ j x read. read.range) h3.2);
+        nodes = (h3.1, all_from NodeFits 0 tree (λ j x node. node.range) h3.2);
         conflicts = (h4.1, All-from_recursion ConflictFits ks h4.2);
         end = h5.1;
       };
@@ -68,7 +68,7 @@ contents_told p =
     (λ _ p1 h. took_then _ _ (source p1) _ (source_told p1)
     (λ s p2 g.
     let sized = line (codes "source") (decimals (length (printed_text s) ∷ [])) in
-    behind_told p.text s p2 (one_more (first_line ++ sized) (printed_text s) (one_more first_line sized h g.sized) g.spelled) g.few g.has))
+    behind_told p.text s p2 (one_more (first_line ++ sized) (printed_text s) (one_more first_line sized h g.sized) g.spelled) g.source))
 
 -- ## The contract of what was read
 
@@ -80,22 +80,26 @@ is_text_of : (text : List ℕ) (c : Contents) → length text ≤ 67108864 → I
 is_text_of text c short h well =
     let tree = tree_told c.tree well in
     record {
-      has_text = record { source = h.source; tree = tree; root = root_told c.tree h.nodes tree.root; lines = all_from HasLine 0 c.tree (λ j x read. read.fit.line) h.nodes };
+      has_text = record { source = h.source.has; tree = tree; root = root_told c.tree h.nodes tree.root; lines = all_from HasLine 0 c.tree (λ j x node. node.fit.line) h.nodes };
       range = h.range;
       spelled = sym h.spelled;
       short = short;
     }
 
-tree_judged : (text : List ℕ) (l : ℕ) (c d : Contents) (o : Option ℕ) → length text ≤ 67108864 → misplaced c.tree ≡ o → IsTold text c → with_tree l o c ≡ Ok d → IsTextOf text d
-tree_judged text l c d None short well h e = let same : c ≡ d = cc in subst (λ x. IsTextOf text x) same (is_text_of text c short h well)
+-- what the law says
+abbrev IsRead : List ℕ → Contents → Type 0
+IsRead text c = IsTextOf text c × HasOwnLines c.source
+
+tree_judged : (text : List ℕ) (l : ℕ) (c d : Contents) (o : Option ℕ) → length text ≤ 67108864 → misplaced c.tree ≡ o → IsTold text c → with_tree l o c ≡ Ok d → IsRead text d
+tree_judged text l c d None short well h e = let same : c ≡ d = cc in subst (IsRead text) same (is_text_of text c short h well, h.source.own)
 tree_judged text l c d (Some k) short well h e = cc
 
-sheet_judged : (text : List ℕ) (r : Taken (Contents × ℕ)) (d : Contents) → length text ≤ 67108864 → IfTook (λ c q. IsTold text c.0) r → judged_sheet r ≡ Ok d → IsTextOf text d
+sheet_judged : (text : List ℕ) (r : Taken (Contents × ℕ)) (d : Contents) → length text ≤ 67108864 → IfTook (λ c q. IsTold text c.0) r → judged_sheet r ≡ Ok d → IsRead text d
 sheet_judged text (took c q) d short h e = tree_judged text c.1 c.0 d (misplaced c.0.tree) short refl h e
 sheet_judged text (refused f) d short h e = cc
 
 pub read_is_text : ReadIsText
 read_is_text text c =
-    cond_both (nat_lt 67108864 (length text)) _ _ (λ r. r ≡ Ok c → IsTextOf text c) (λ _ e. cc)
-    (λ short. cond_both (nat_lt (utf8_valid_len text) (length text)) _ _ (λ r. r ≡ Ok c → IsTextOf text c) (λ _ e. cc)
+    cond_both (nat_lt 67108864 (length text)) _ _ (λ r. r ≡ Ok c → IsRead text c) (λ _ e. cc)
+    (λ short. cond_both (nat_lt (utf8_valid_len text) (length text)) _ _ (λ r. r ≡ Ok c → IsRead text c) (λ _ e. cc)
     (λ _ e. sheet_judged text (contents_from (record { line = 1; text = text })) c (ltb-false 67108864 (length text) short) (contents_told (record { line = 1; text = text })) e))
