@@ -130,6 +130,14 @@ try 'a text that is no UTF-8' 5 '' $'cwstm: line 1: NotUtf8\n' run
 printf 'fn main() {' > source
 try 'a text that stops short' 5 '' $'cwstm: line 1: Unexpected\n' run
 
+# each front of a program, from no byte to all but the last
+counts='cell c; fn main() { c = c + 1; out c; }'
+for length in $(seq 0 38); do
+  printf '%s' "${counts:0:length}" > source
+  case $length in 0 | 7 | 8) note='line 0: NoMain' ;; *) note='line 1: Unexpected' ;; esac
+  try "the first $length bytes of a program" 5 '' "cwstm: $note"$'\n' run
+done
+
 # ## Languages
 
 printf 'cell cancel; fn main() { cancel = 1; }' > source
@@ -271,7 +279,9 @@ printf '@' > source
 for count in 1 17 10000; do
   try "a load of $count" 0 "transfers $count"$'\nsum 64000\nend\n' '' load "$count"
 done
-try 'a load of one worker' 0 $'transfers 20000\nsum 64000\nend\n' '' load --workers 1 20000
+for workers in 1 4; do
+  try "the largest load, $workers workers" 0 $'transfers 20000\nsum 64000\nend\n' '' load --workers "$workers" 20000
+done
 try 'a load behind the end of the options' 0 $'transfers 5\nsum 64000\nend\n' '' load -- 5
 "$program" load 5 <&- > text 2> note
 judge 'a load where nothing can be read' $? 0 $'transfers 5\nsum 64000\nend\n' ''
@@ -328,8 +338,10 @@ try 'turns of one seed' 0 $'out 3\nout 1\nout 2\nout 4\nend\n' '' sim --seed 4
 try 'turns of another' 0 $'out 2\nout 1\nout 4\nout 3\nend\n' '' sim --seed 5
 printf 'fn main() {}' > source
 zeros=$(printf ',0%.0s' $(seq 20000))
-try 'as many listed as may be' 0 $'end\n' '' sim --schedule "${zeros:1}"
-try 'one listed too many' 2 '' "$usage" sim --schedule "0$zeros"
+for workers in 1 4; do
+  try "as many listed as may be, $workers workers" 0 $'end\n' '' sim --workers "$workers" --schedule "${zeros:1}"
+  try "one listed too many, $workers workers" 2 '' "$usage" sim --workers "$workers" --schedule "0$zeros"
+done
 for words in '--workers 0' '--workers 65' '--moves 0' '--strands 1000001' '--schedule 4' '--schedule 0,2 --workers 2' '--schedule=' '--schedule 0,' '--schedule +1' \
   '--seed 18446744073709551616' '--seed 1 --schedule 0' '--schedule 0 --schedule 0' '--report 2' 'x'; do
   # the words stand apart by blanks
@@ -362,8 +374,17 @@ printf 'cell c; cell d; fn main() { spawn { spawn { d = 5; } c = 1; sync; atomic
 try 'a stolen branch that is joined before a block' 0 $'c = 2\nd = 2\nend\n'"$(report 5 '1 0')"$'\n' '' \
   sim --workers 3 --schedule 0,1,0,2,2,0,2,0,0,0,1 --report 1
 printf 'cell c; cell d; fn main() { spawn { atomic { spawn { d = 5; } c = 1; sync; d = 1; } } c = 2; }' > source
-try 'the same inside the block' 0 $'c = 2\nd = 1\nend\n'"$(report 5 '1 0' 'c last 0.1l.1r@4 asker 0.1r block 2 victim none attempt 1 chain 4' \
-  'c last 0.1l.1r@4 asker 0.1r block 2 victim none attempt 2 chain 4')"$'\n' '' sim --workers 3 --schedule 0,1,0,0,2,2,0,2,0,1 --report 1
+twice='c last 0.1l.1r@4 asker 0.1r block 2 victim none attempt'
+turns='--workers 3 --schedule 0,1,0,0,2,2,0,2,0,1'
+for aborts in '' '--aborts 3'; do
+  # the words stand apart by blanks
+  # shellcheck disable=SC2086
+  try "the same inside the block $aborts" 0 $'c = 2\nd = 1\nend\n'"$(report 5 '1 0' "$twice 1 chain 4" "$twice 2 chain 4")"$'\n' '' \
+    sim $turns --report 1 $aborts
+done
+# shellcheck disable=SC2086
+try 'the same, and its budget is spent' 7 $'budget spent in 0.1r\n'"$(report 5 '0 0' "$twice 1 chain 4" "$twice 2 chain 4")"$'\n' '' \
+  sim $turns --report 1 --aborts 2
 printf 'cell c; fn main() { atomic { spawn { atomic { c = 1; } } c = 2; } }' > source
 try 'no victim inside one block' 0 $'c = 2\nend\n'"$(report 3 '2 0' 'c last 0.1l@4 asker 0.1r block 3 victim none attempt 1 chain 4')"$'\n' '' \
   sim --workers 2 --schedule 0,0,1,0,0,1 --report 1
@@ -417,6 +438,14 @@ try '30,000 spawned blocks' 0 $'c = 30000\nend\n' '' run
   echo '}'
 } > source
 try '200 blocks in each other' 0 $'c = 199\nend\n' '' run
+
+{
+  printf 'cell c; fn main() {'
+  printf ' c = c + 1; atomic {%.0s' $(seq 200)
+  printf ' }%.0s' $(seq 200)
+  echo ' }'
+} > source
+try '201 blocks in each other' 5 '' $'cwstm: line 1: TooDeep\n' run
 
 {
   printf 'fn main() { out 1'
