@@ -1,6 +1,12 @@
 use super::{COUNTS, answer_at, ran, status_at};
+use cw_base::OutOfMemory;
 use cw_io::{Gate, Point, SureSink, SureSource};
+use cw_record::{Record, RecordEnd};
+use cw_serial::{SerialEnd, serial, takes_words};
+use cw_top::Reply;
+use std::alloc::Global;
 use std::hint;
+use std::process::Abort;
 use std::sync::Wait;
 use std::sync::atomic::{AtomicU64, Ordering};
 use std::test::Fail;
@@ -68,88 +74,198 @@ fn threads_come_to_what_one_memory_does(rt: HostRuntime) -> Result<(), Fail> {
 // The most turns of a wait.
 const MOST_TURNS: u64 = 100_000_000;
 
-// A gate that holds the first of two workers that reaches a commit, until the other one has reached an access twice.
+// How often a worker has come to a gate, and to its point `until`.
 #[derive(Drop)]
-struct Holding {
-    held: AtomicU64,
-    gave_up: AtomicU64,
-    first: AtomicU64,
-    second: AtomicU64,
+struct Visits {
+    any: AtomicU64,
+    until: AtomicU64,
 }
 
-impl Holding {
-    fn new() -> Holding {
-        Holding {
+impl Visits {
+    fn none() -> Visits {
+        Visits {
+            any: AtomicU64::new(0),
+            until: AtomicU64::new(0),
+        }
+    }
+}
+
+// A gate for two workers. The first one that comes to the point `at` waits there, until the other one has come to the point `until`
+// as often as `times` says. Before that, each waits until the other has come at all: otherwise one could do everything before the
+// other's thread runs.
+#[derive(Drop)]
+struct Hold {
+    at: Point,
+    until: Point,
+    times: u64,
+    held: AtomicU64,
+    gave_up: AtomicU64,
+    first: Visits,
+    second: Visits,
+}
+
+impl Hold {
+    fn new(at: Point, until: Point, times: u64) -> Hold {
+        Hold {
+            at,
+            until,
+            times,
             held: AtomicU64::new(0),
             gave_up: AtomicU64::new(0),
-            first: AtomicU64::new(0),
-            second: AtomicU64::new(0),
+            first: Visits::none(),
+            second: Visits::none(),
         }
     }
 
-    // Returns how often a worker reached an access.
-    fn accesses(&self, worker: u32) -> &AtomicU64 {
-        if worker == 0 {
-            &self.first
-        } else {
-            &self.second
-        }
-    }
-
-    fn hold(&self, worker: u32) {
-        let other = if worker == 0 { 1 } else { 0 };
+    fn wait_for(&self, count: &AtomicU64, least: u64) {
         for _ in 0..MOST_TURNS {
-            if 2 <= self.accesses(other).load(Ordering::SeqCst) {
+            if least <= count.load(Ordering::SeqCst) {
                 return;
             }
             hint::spin_loop();
         }
         self.gave_up.store(1, Ordering::SeqCst);
     }
+
+    // Whether a worker was held, and the other one came.
+    fn has_held(&self) -> bool {
+        self.held.load(Ordering::SeqCst) != 0 && self.gave_up.load(Ordering::SeqCst) == 0
+    }
 }
 
-impl Gate for Holding {
+impl Gate for Hold {
     fn at<R: Threads + Wait + Sync>(&self, _rt: &R, worker: u32, point: Point) {
-        match point {
-            Point::Access => {
-                self.accesses(worker).fetch_add(1, Ordering::SeqCst);
-            }
-            Point::Commit => {
-                if self.held.fetch_add(1, Ordering::SeqCst) == 0 {
-                    self.hold(worker);
-                }
-            }
-            _ => {}
+        let (mine, other) = if worker == 0 {
+            (&self.first, &self.second)
+        } else {
+            (&self.second, &self.first)
+        };
+        if mine.any.fetch_add(1, Ordering::SeqCst) == 0 {
+            self.wait_for(&other.any, 1);
+        }
+        if point == self.until {
+            mine.until.fetch_add(1, Ordering::SeqCst);
+        }
+        if point == self.at && self.held.fetch_add(1, Ordering::SeqCst) == 0 {
+            self.wait_for(&other.until, self.times);
         }
     }
 }
 
-// Returns the status of a run of two workers at this gate, and whether an access was refused.
-fn held<R: AllocGlobal + Threads + Wait + Sync>(
-    rt: &R,
-    gate: &Holding,
-) -> Result<(u8, bool), Fail> {
-    let text = b"cell c; fn main() { spawn { atomic { c = 1; } } atomic { atomic { c = 2; } } }";
-    let mut source = SureSource::new(text.to_vec(rt.alloc())?, 100);
-    let mut sink = SureSink::with_room(rt.alloc(), 100)?;
-    let words = ["run", "--workers", "2"];
-    let reply = answer_at(rt, &words, &mut source, &mut sink, gate)?;
-    let was_refused = match &reply.kept {
-        Some(kept) => !kept.conflicts.as_slice().is_empty(),
-        None => false,
-    };
-    Ok((reply.status, was_refused))
+// What tests look at in a run at such a gate.
+#[derive(Drop)]
+struct HeldRun {
+    status: u8,
+    text: Vec<u8>,
+    has_held: bool,
+    was_refused: bool,
+    is_replayed: bool,
 }
 
-// Two threads therefore work at the same time, and one meets what the other has not committed.
+fn is_end(end: &SerialEnd, memory: &[i64], outputs: &[i64]) -> bool {
+    match end {
+        SerialEnd::Finished {
+            memory: cells,
+            outputs: told,
+        } => cells.as_slice() == memory && told.as_slice() == outputs,
+        _ => false,
+    }
+}
+
+// Whether the run is kept and finished, and one memory comes to the same end in the order that is kept.
+fn is_replayed(alloc: Global, reply: &Reply) -> Result<bool, OutOfMemory> {
+    let Some(run) = &reply.kept else {
+        return Ok(false);
+    };
+    let RecordEnd::Finished { memory, outputs } = &run.end else {
+        return Ok(false);
+    };
+    if !takes_words(&run.program, run.words.len()) {
+        return Ok(false);
+    }
+    let words = run.words.as_slice();
+    let end = serial(alloc, &run.program, words, run.limits, &run.order)?;
+    let is_same = is_end(&end, memory.as_slice(), outputs.as_slice());
+    drop(end);
+    Ok(is_same)
+}
+
+fn was_refused(reply: &Reply) -> bool {
+    match &reply.kept {
+        Some(run) => !run.conflicts.as_slice().is_empty(),
+        None => false,
+    }
+}
+
+// Runs a program by two workers at this gate.
+fn run_held<R: AllocGlobal + Threads + Wait + Sync>(
+    rt: &R,
+    text: &[u8],
+    gate: &Hold,
+) -> Result<HeldRun, Fail> {
+    let mut source = SureSource::new(text.to_vec(rt.alloc())?, 100);
+    let mut sink = SureSink::with_room(rt.alloc(), 100)?;
+    let words = ["run", "--workers", "2", PATIENT];
+    let reply = answer_at(rt, &words, &mut source, &mut sink, gate)?;
+    let status = reply.status;
+    let was_refused = was_refused(&reply);
+    let is_replayed = is_replayed(rt.alloc(), &reply);
+    drop(reply);
+    let is_replayed = is_replayed?;
+    Ok(HeldRun {
+        status,
+        text: sink.taken().to_vec(rt.alloc())?,
+        has_held: gate.has_held(),
+        was_refused,
+        is_replayed,
+    })
+}
+
+// Tries 1,000 spawned blocks. A worker waits at `at` until the other one has come to `until`.
+fn try_thousand<R: AllocGlobal + Threads + Wait + Sync + Abort>(
+    rt: &R,
+    at: Point,
+    until: Point,
+) -> Result<(), Fail> {
+    let run = run_held(rt, THOUSAND, &Hold::new(at, until, 1))?;
+    assert!(rt; run.has_held);
+    assert!(rt; run.status == 0);
+    assert!(rt; run.text.as_slice() == b"c = 1000\nend\n".as_slice());
+    assert!(rt; run.is_replayed);
+    Ok(())
+}
+
 #[test]
-fn a_worker_that_is_held_is_met_by_the_other(rt: HostRuntime) -> Result<(), Fail> {
-    let gate = Holding::new();
-    let (status, was_refused) = held(&rt, &gate)?;
-    assert_eq!(rt; status, 0);
-    assert!(rt; gate.held.load(Ordering::SeqCst) != 0);
-    assert_eq!(rt; gate.gave_up.load(Ordering::SeqCst), 0);
-    assert!(rt; was_refused);
+fn a_steal_waits_for_a_commit(rt: HostRuntime) -> Result<(), Fail> {
+    try_thousand(&rt, Point::Steal, Point::Commit)
+}
+
+#[test]
+fn a_begin_waits_for_a_steal(rt: HostRuntime) -> Result<(), Fail> {
+    try_thousand(&rt, Point::Begin, Point::Steal)
+}
+
+#[test]
+fn an_access_waits_for_an_access(rt: HostRuntime) -> Result<(), Fail> {
+    try_thousand(&rt, Point::Access, Point::Access)
+}
+
+#[test]
+fn a_commit_waits_for_an_access(rt: HostRuntime) -> Result<(), Fail> {
+    try_thousand(&rt, Point::Commit, Point::Access)
+}
+
+// Two threads therefore work at the same time, and one meets what the other has not committed. Whichever is held comes first.
+#[test]
+fn a_commit_waits_for_a_refused_access(rt: HostRuntime) -> Result<(), Fail> {
+    let text = b"cell c; fn main() { spawn { atomic { c = 1; } } atomic { atomic { c = 2; } } }";
+    let run = run_held(&rt, text, &Hold::new(Point::Commit, Point::Access, 2))?;
+    assert!(rt; run.has_held);
+    assert!(rt; run.was_refused);
+    assert!(rt; run.status == 0);
+    let told = run.text.as_slice();
+    assert!(rt; told == b"c = 1\nend\n".as_slice() || told == b"c = 2\nend\n".as_slice());
+    assert!(rt; run.is_replayed);
     Ok(())
 }
 
