@@ -13,6 +13,7 @@ use std::test::Fail;
 mod board;
 mod deques;
 mod fickle;
+mod gates;
 mod pairs;
 mod walks;
 

@@ -1,10 +1,10 @@
-ghost use Rattle.std.specs.Prelude.{length};
+ghost use Rattle.std.specs.Prelude.{length, IfOk};
 ghost use Rattle.cw_job.specs.Jobs.{TakesWords};
 
 use super::{COUNTS, FAULTY, OUTER, WIDE, columns, program, up_to};
 use cw_base::Seq;
 use cw_code::Limits;
-use cw_io::OpenGate;
+use cw_io::{Gate, OpenGate};
 use cw_pool::run;
 use cw_record::{Checked, Record, RecordEnd, check};
 use std::alloc::Global;
@@ -13,13 +13,32 @@ use std::test::Fail;
 use std::thread::Threads;
 
 // Returns how a run ended that one memory replays.
-fn replayed(alloc: Global, record: &Record) -> Result<String, Fail>
+pub(super) fn replayed(alloc: Global, record: &Record) -> Result<String, Fail>
     requires { TakesWords record.now.program (length record.now.words) }
 {
     match check(alloc, record)? {
         Checked::Agrees => shown(alloc, record),
         _ => Err("does not replay".into()),
     }
+}
+
+// Returns the record of a run on the board.
+pub(super) fn recorded<G: Gate, R: Threads + Wait + Sync>(
+    rt: &R,
+    alloc: Global,
+    text: &str,
+    workers: u32,
+    limits: Limits,
+    gate: &G,
+) -> Result<Record, Fail>
+    ensures { IfOk result (λ r. TakesWords r.program (length r.words)) }
+{
+    if limits.strands == 0 {
+        return Err("no strands".into());
+    }
+    let program = program(alloc, text)?;
+    let words = Seq::new(alloc);
+    Ok(run(rt, alloc, program, words, workers, limits, gate)?)
 }
 
 // Returns how a run ended whose record one memory replays.
@@ -30,12 +49,7 @@ fn ended<R: Threads + Wait + Sync>(
     workers: u32,
     limits: Limits,
 ) -> Result<String, Fail> {
-    if limits.strands == 0 {
-        return Err("no strands".into());
-    }
-    let program = program(alloc, text)?;
-    let words = Seq::new(alloc);
-    let record = run(rt, alloc, program, words, workers, limits, &OpenGate)?;
+    let record = recorded(rt, alloc, text, workers, limits, &OpenGate)?;
     let said = replayed(alloc, &record);
     drop(record);
     said
