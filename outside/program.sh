@@ -527,5 +527,31 @@ within 5 500 '25,000 spawned increments, simulated' 0 $'c = 0\nd = 1\nend\n' '' 
 printf 'cell c; cell d; fn main() { spawn { atomic { c = 1; let i = 0; while i < 60000 { d = i; i = i + 1; } } } atomic { c = 2; } }' > source
 within 5 500 '20,000 attempts of a block' 0 $'c = 2\nd = 59999\nend\n' '' sim --workers 2
 
+# ## More of each than above
+# No clause forbids to want memory that is there.
+
+printf 'language 2; cell a[100]; fn main() { atomic { let i = 0; while i < 100 { a[i] = 1; i = i + 1; } cancel; } }' > source
+try '100 cells that are put back' 0 "$(seq -f 'a[%g] = 0' 0 99; echo end)"$'\n' '' sim
+
+try 'a load of 15,000' 0 $'transfers 15000\nsum 64000\nend\n' '' load 15000
+
+{
+  printf 'fn main(p1'
+  printf ', p%s' $(seq 2 150)
+  echo ') { out p1; out p150; }'
+} > source
+# the words stand apart by blanks
+# shellcheck disable=SC2046
+try '150 words' 0 $'out 1\nout 150\nend\n' '' run $(seq 150)
+
+printf 'cell c; fn main() { let i = 0; while i < 60000 { spawn { c = 1; } i = i + 1; } }' > source
+try '60,000 spawned writes' 0 $'c = 1\nend\n' '' run
+
+printf 'cell c; cell d; fn main() { spawn { atomic { c = 1; let i = 0; while i < 6000 { d = i; i = i + 1; } } } atomic { c = 2; } }' > source
+"$program" sim --workers 2 --report 1 < source > told 2> note
+status=$?
+awk '/^conflict / { n++ } END { print (n > 1000 ? "more than 1,000" : n + 0) }' told > text
+judge 'a report of more than 1,000 conflicts' "$status" 0 $'more than 1,000\n' ''
+
 echo "$passed passed, $failed failed"
 [ "$failed" -eq 0 ]

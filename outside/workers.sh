@@ -2,7 +2,8 @@
 # Runs programs by several workers, over and over, and counts how the runs end: each example of examples/ that `run` takes, each program of
 # outside/threads/ and each program of the list below with 2, 3, 4 and 8 workers, and generated programs with the same numbers in turn. If the
 # result cannot depend on the schedule, the text and the status must be those of `--workers 1`. A run that does not begin (status 2 or 5) is
-# wrong, too. For status 8 the whole program is printed: the record of that run did not replay, so it is a bug.
+# wrong, too. For status 8 the whole program is printed: the record of that run did not replay, so it is a bug. Last, a run must have as many
+# threads as workers.
 # It takes minutes, and is run by hand.
 # Usage: outside/workers.sh PROGRAM [TIMES] [GENERATED] [EACH], with the program as the gate builds it: crates/cwstm/out/cwstm, once `rt ci` has
 # passed. TIMES: runs of each program with each number of workers (500); GENERATED: how many generated programs (200), each run EACH times (50).
@@ -38,7 +39,8 @@ alone() {
   timeout 60 "$program" run --workers 1 "$@" < source > alone_text 2> alone_note || alone=$?
 }
 
-# once KIND NAME WORKERS WORD..: one run of the file `source`. KIND `same`: the schedule cannot show; `any`: it can
+# once KIND NAME WORKERS WORD..: one run of the file `source`. KIND `same`: the schedule cannot show; `any`: it can; otherwise the text of
+# each run
 once() {
   local kind=$1 name=$2 workers=$3
   shift 3
@@ -53,9 +55,15 @@ once() {
     124) tell 'NO END IN 60 SECONDS' "$name" "$workers" "$@" ;;
     *) tell "STATUS $status" "$name" "$workers" "$@" ;;
   esac
-  if [ "$kind" = same ] && { [ "$status" != "$alone" ] || ! cmp -s text alone_text; }; then
-    tell "NOT AS BY ONE WORKER, status $status" "$name" "$workers" "$@"
-  fi
+  case $kind in
+    any) ;;
+    same)
+      if [ "$status" != "$alone" ] || ! cmp -s text alone_text; then
+        tell "NOT AS BY ONE WORKER, status $status" "$name" "$workers" "$@"
+      fi
+      ;;
+    *) if [ "$(cat text)" != "$kind" ]; then tell "NOT '$kind', status $status" "$name" "$workers" "$@"; fi ;;
+  esac
 }
 
 # often KIND NAME WORD..: all runs of the file `source`
@@ -107,8 +115,22 @@ done
 # ## Programs in files
 
 for file in "$root"/outside/threads/*.cw; do
+  name=$(basename "$file")
+  kind=any
+  words=(--fuel 1000000000)
+  case $name in
+    spent.cw) kind='budget spent in 0.1r' words+=(--aborts 20) ;;
+    stopped.cw) kind=same ;;
+  esac
   cp "$file" source
-  often any "$(basename "$file")" --fuel 1000000000
+  often "$kind" "$name" "${words[@]}"
+done
+
+# blocks with strands of their own, where budgets are spent, and where most forks wait inline
+for name in nested nested_twice; do
+  cp "$root/outside/threads/$name.cw" source
+  often any "$name.cw, few attempts" --aborts 2
+  often any "$name.cw, few columns" --strands 9
 done
 
 # ## Programs
@@ -139,6 +161,26 @@ for _ in $(seq "$((times / 10 + 1))"); do
   echo 'cell c; fn main() { let i = 0; while i < 100 { spawn { atomic { c = c + 1; } } i = i + 1; } }' > source
   alone
   once same 'more workers than processors' 64
+done
+
+# ## Threads
+
+# as many threads as there are workers, once main has made its first access
+echo 'cell c; fn main() { c = 1; let i = 0; while i < 400000000 { i = i + 1; } }' > source
+for workers in "${numbers[@]}" 64; do
+  "$program" run --workers "$workers" --fuel 1000000000 < source > text 2> note &
+  run=$!
+  for _ in $(seq 50); do
+    sleep 0.1
+    threads=$(find "/proc/$run/task" -mindepth 1 -maxdepth 1 2> /dev/null | wc -l)
+    if [ "$threads" = "$workers" ]; then break; fi
+  done
+  kill "$run"
+  wait "$run" 2> /dev/null
+  if [ "$threads" != "$workers" ]; then
+    wrong=$((wrong + 1))
+    echo "$threads THREADS: run --workers $workers"
+  fi
 done
 
 # ## Generated programs
