@@ -18,7 +18,7 @@ use std::test::Fail;
 
 /// A call. Strands are numbered in the order in which they appear: first the root, then the right strand of each fork.
 #[derive(Clone, Copy, Drop)]
-enum Call {
+pub(super) enum Call {
     Begin(usize),
     Commit(usize),
     Out(usize, i64),
@@ -396,7 +396,7 @@ fn row<R: Wait>(
 }
 
 /// Whether the calls of a row answer what is wanted; the row is named where they do not.
-fn expect<R: Wait>(
+pub(super) fn expect<R: Wait>(
     rt: &R,
     alloc: Global,
     name: &str,
