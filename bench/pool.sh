@@ -18,7 +18,8 @@ cat > src/main.rt <<'PROGRAM'
 //! the check of its record.
 #![tactic(auto)]
 
-ghost use Rattle.std.specs.Prelude.{◌<◌, IfSome, length};
+ghost use Rattle.std.specs.Prelude.{◌≡◌, ◌<◌, false, IfSome, length};
+ghost use Rattle.cw_code.specs.Programs.{cancels};
 ghost use Rattle.cw_job.specs.Jobs.{TakesWords};
 ghost use Rattle.cw_strand.specs.Programs.{IsCompiled};
 
@@ -29,7 +30,7 @@ use cw_io::OpenGate;
 use cw_job::takes_words;
 use cw_pool::run;
 use cw_record::{Checked, Record, check};
-use cw_text::{Ast, read_program};
+use cw_text::read_language;
 use std::alloc::Global;
 use std::env;
 use std::io::Read;
@@ -52,13 +53,26 @@ const LIMITS: Limits = Limits {
     moves: 1,
 };
 
-fn program(alloc: Global, ast: &Ast) -> Option<Program>
+/// Reads and compiles a program of language 1, in which nothing is given up by `cancel`.
+fn read(alloc: Global, text: &[u8]) -> Option<Program>
     ensures compiled { IfSome result (λ p. IsCompiled p) }
-    ensures words { IfSome result (λ p. TakesWords p 0) }
+    ensures cancels { IfSome result (λ p. cancels p.code ≡ false) }
 {
-    let Ok(program) = compile(alloc, ast) else {
+    let Ok(ast) = read_language(alloc, text, 1) else {
         return None;
     };
+    match compile(alloc, &ast) {
+        Ok(program) => Some(program),
+        Err(_) => None,
+    }
+}
+
+fn program(alloc: Global, text: &[u8]) -> Option<Program>
+    ensures compiled { IfSome result (λ p. IsCompiled p) }
+    ensures cancels { IfSome result (λ p. cancels p.code ≡ false) }
+    ensures words { IfSome result (λ p. TakesWords p 0) }
+{
+    let program = read(alloc, text)?;
     if takes_words(&program, 0) {
         Some(program)
     } else {
@@ -75,6 +89,7 @@ fn recorded<R: Threads + Wait + Sync>(
 ) -> Option<Record>
     requires compiled { IsCompiled program }
     requires words { TakesWords program 0 }
+    requires cancels { cancels program.code ≡ false }
     requires strands { 0 < strands }
     ensures { IfSome result (λ r. TakesWords r.program (length r.words)) }
 {
@@ -118,6 +133,7 @@ fn time_run<R: Threads + Wait + Sync + Clock>(
 ) -> Option<Times>
     requires compiled { IsCompiled program }
     requires words { TakesWords program 0 }
+    requires cancels { cancels program.code ≡ false }
     requires strands { 0 < strands }
 {
     let start = now(rt)?;
@@ -131,11 +147,11 @@ fn time_run<R: Threads + Wait + Sync + Clock>(
 fn once<R: Threads + Wait + Sync + Clock>(
     rt: &R,
     alloc: Global,
-    ast: &Ast,
+    text: &[u8],
     workers: u32,
     strands: u32,
 ) -> Option<Times> {
-    let program = program(alloc, ast)?;
+    let program = program(alloc, text)?;
     if strands == 0 {
         return None;
     }
@@ -146,7 +162,7 @@ fn once<R: Threads + Wait + Sync + Clock>(
 fn least_of<R: Threads + Wait + Sync + Clock>(
     rt: &R,
     alloc: Global,
-    ast: &Ast,
+    text: &[u8],
     workers: u32,
     strands: u32,
     runs: u32,
@@ -156,7 +172,7 @@ fn least_of<R: Threads + Wait + Sync + Clock>(
         check: u128::MAX,
     };
     for _ in 0..runs {
-        let times = once(rt, alloc, ast, workers, strands)?;
+        let times = once(rt, alloc, text, workers, strands)?;
         least.run = least.run.min(times.run);
         least.check = least.check.min(times.check);
     }
@@ -181,17 +197,28 @@ fn main(rt: HostRuntime) -> anyhow::Result<()> {
     let [workers, strands, runs] = numbers(&rt)?;
     let mut text = Vec::new(alloc);
     rt.stdin().read_to_end(&mut text)?;
-    let Ok(ast) = read_program(alloc, text.as_slice()) else {
-        println!(rt; "no program")?;
-        return Ok(());
-    };
-    match least_of(&rt, alloc, &ast, workers, strands, runs) {
+    match least_of(&rt, alloc, text.as_slice(), workers, strands, runs) {
         Some(least) => println!(rt; "{} {}", least.run, least.check)?,
-        None => println!(rt; "no record that replays")?,
+        None => println!(rt; "no program, or no record that replays")?,
     }
     Ok(())
 }
 PROGRAM
+mkdir -p proofs/read
+cat > proofs/read/Answers.antt <<'PROOF'
+use Rattle.std.proofs.Common.{ap, ◌∙◌}
+use Rattle.cw_text.specs.Syntax.{source_of}
+use Rattle.cw_text.proofs.Cancels.{newest_one_has_none}
+use Rattle.cw_code.specs.Programs.{cancels}
+use Rattle.cw_code.specs.declared.instruction.Code.{Code}
+use Rattle.cw_strand.proofs.CompiledCancels.{code_has_its_cancels}
+use Rattle.pool_times.proofs.read.Goals as goal
+
+pub returns-in-Ok-compile-clause-cancels : goal.returns-in-Ok-compile-clause-cancels
+returns-in-Ok-compile-clause-cancels c =
+    let source = source_of c.in-Ok.ast in
+    ap (λ (x : Code). cancels x) c.in-Ok-compile.ensures.compiled.code ∙ (code_has_its_cancels source.items ∙ newest_one_has_none c.args.text.now source c.in-Ok.ensures.exact)
+PROOF
 
 source_of_transfers 0 > "$folder/0.cw"
 build 1 1000 1 < "$folder/0.cw"
