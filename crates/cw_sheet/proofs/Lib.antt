@@ -1,1 +1,9 @@
+pub mod Beneath
+pub mod Counted
+pub mod Cursors
+pub mod Numerals
+pub mod Placed
+pub mod Rows
 pub mod SheetText
+pub mod Taking
+pub mod Whole

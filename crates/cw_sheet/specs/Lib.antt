@@ -3,5 +3,8 @@ pub mod SheetText
 pub mod Items
 pub mod Reading
 pub mod Laws
+pub mod Numerals
+pub mod Taking
+pub mod Beneath
 pub mod Worked
 pub mod WorkedReading

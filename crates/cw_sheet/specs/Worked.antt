@@ -1,5 +1,5 @@
 -- Examples: the texts of small sheets.
-use Rattle.std.specs.Prelude.{◌≡◌, ℕ, ◌-◌, ℤ, pos, negsuc, List, [], ◌∷◌, ◌++◌, codes, drop, take, Result, Ok, Err}
+use Rattle.std.specs.Prelude.{◌≡◌, ℕ, ◌-◌, ℤ, pos, negsuc, List, [], ◌∷◌, ◌++◌, codes, drop, take, None, Result, Ok, Err}
 use Rattle.std.specs.List.{flat_map}
 use Rattle.cw_text.specs.declared.ast.Op.TheVariants.{Add}
 use Rattle.cw_text.specs.Grammar.{word_at}
@@ -10,18 +10,18 @@ use Rattle.cw_code.specs.declared.Back.{Back}
 use Rattle.cw_code.specs.declared.FaultKind.TheVariants.{Fuel}
 use Rattle.cw_code.specs.declared.Limits.{Limits}
 use Rattle.cw_tree.specs.declared.node.Node.{Node}
-use Rattle.cw_tree.specs.declared.node.Kind.TheVariants.{Strand, Read, Write, Out, Tried, Cancel}
+use Rattle.cw_tree.specs.declared.node.BlockState.TheVariants.{Pending}
+use Rattle.cw_tree.specs.declared.node.Kind.TheVariants.{Strand, Block, Read, Write, Out, Cancel}
 use Rattle.cw_tree.specs.Worked.{plain}
 use Rattle.cw_tree.specs.WorkedRun.{refused_write, two_blocks}
-use Rattle.cw_record.specs.declared.record_end.RecordEnd.{RecordEnd}
 use Rattle.cw_record.specs.declared.record_end.RecordEnd.TheVariants.{Finished, Fault, Budget, Moves}
 use Rattle.cw_sheet.specs.declared.sheet.SheetKind.{SheetKind}
 use Rattle.cw_sheet.specs.declared.sheet.SheetKind.TheVariants.{Unexpected, BadNumber, BadTree, BadSource}
 use Rattle.cw_sheet.specs.declared.sheet.SheetFault.{SheetFault}
 use Rattle.cw_sheet.specs.Contents.{Contents}
 use Rattle.cw_sheet.specs.Items.{Place, Taken, took, refused}
-use Rattle.cw_sheet.specs.Reading.{behind_source, cancel_node, canonical, heading, judged_sheet, source}
-use Rattle.cw_sheet.specs.SheetText.{conflicts_part, end_part, limits_line, line, node_line, nodes_part, sheet_text, words_line}
+use Rattle.cw_sheet.specs.Reading.{behind_source, cancel_node, canonical, conflicts, heading, judged_sheet, misplaced, node, nodes, run_end, source, values}
+use Rattle.cw_sheet.specs.SheetText.{conflicts_part, end_part, line, node_line, nodes_part, sheet_text, words_line}
 
 abbrev pub lines : List (List ℕ) → List ℕ
 lines texts = flat_map (λ text. text ++ 10 ∷ []) texts
@@ -177,3 +177,23 @@ pub record TreeFaults : Type 0 where
   pub strand_five : IsRefused Unexpected 11 (with_line 11 (codes "strand 5"))
   pub root_no_strand : IsRefused BadTree 11 (with_line 11 (codes "fork 0 1"))
   pub childless_fork : IsRefused BadTree 15 (with_line 15 (codes "fork 0 4"))
+
+-- ## What is read of other runs
+
+-- what this line reads as, from line 8 on
+abbrev pub IsRead : {A : Type 0} → (Place → Taken A) → List ℕ → A → Type 0
+IsRead reader text x = reader (at_line 8 (line text [])) ≡ took x (at_line 9 [])
+
+pub record OtherRuns : Type 0 where
+  pub forked : nodes (at_line 10 two_blocks_lines) ≡ took two_blocks (at_line 23 [])
+  pub placed : misplaced two_blocks ≡ None
+  pub begun : IsRead (node 3) (codes "block 0 4 pending 0") (record { parent = 0; kind = Block; state = Pending; stamp = 4; end = 0 })
+  pub no_state : node 3 (at_line 8 (line (codes "block 0 4 open 0") [])) ≡ refused_on Unexpected 8
+  pub conflict : conflicts (at_line 23 (lines (codes "conflicts 1" ∷ codes "0 3 8 2 4 1 3" ∷ []))) ≡ took (refused_write ∷ []) (at_line 25 [])
+  pub fault : IsRead run_end (codes "fault 0 Fuel") (Fault 0 Fuel)
+  pub budget : IsRead run_end (codes "budget 5") (Budget 5)
+  pub moves : IsRead run_end (codes "moves") Moves
+  pub no_fault : run_end (at_line 8 (line (codes "fault 0 fuel") [])) ≡ refused_on Unexpected 8
+  pub words : IsRead (values (codes "words")) (codes "words 7 -5") (pos 7 ∷ negsuc 4 ∷ [])
+  pub least : IsRead (values (codes "words")) (codes "words -9223372036854775808") (negsuc 9223372036854775807 ∷ [])
+  pub below_least : values (codes "words") (at_line 8 (line (codes "words -9223372036854775809") [])) ≡ refused_on BadNumber 8

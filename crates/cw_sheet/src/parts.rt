@@ -102,7 +102,7 @@ pub(crate) fn push_conflicts(text: &mut String, conflicts: &[Conflict]) -> Resul
     push_each_conflict(text, conflicts)
 }
 
-fn fault_word(kind: FaultKind) -> &'static str
+pub(crate) fn fault_word(kind: FaultKind) -> &'static str
     ensures { result.now ≡ fault_word kind }
 {
     match kind {

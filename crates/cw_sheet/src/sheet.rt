@@ -1,8 +1,9 @@
-use cw_base::Seq;
+use cw_base::{OutOfMemory, Seq};
 use cw_code::Limits;
 use cw_record::RecordEnd;
 use cw_text::Ast;
 use cw_tree::{Conflict, Tree};
+use std::alloc::AllocFailed;
 
 /// A whole run as a sheet tells it: the program's syntax tree, the words and limits, the tree of the run, its refused
 /// accesses, and how it ended.
@@ -45,4 +46,37 @@ pub struct SheetFault {
 pub enum SheetRefusal {
     Sheet(SheetFault),
     OutOfMemory,
+}
+
+impl From<SheetFault> for SheetRefusal {
+    ghost use Rattle.std.specs.Prelude.{◌≡◌};
+    ghost use Rattle.cw_sheet.specs.declared.sheet.SheetRefusal.TheVariants.{Sheet};
+
+    ghost from_gives = { λ f e. e ≡ Sheet f };
+
+    fn from(fault: SheetFault) -> Self {
+        SheetRefusal::Sheet(fault)
+    }
+}
+
+impl From<OutOfMemory> for SheetRefusal {
+    ghost use Rattle.std.specs.Prelude.{◌≡◌};
+    ghost use Rattle.cw_sheet.specs.declared.sheet.SheetRefusal.TheVariants as refusal;
+
+    ghost from_gives = { λ _ e. e ≡ refusal.OutOfMemory };
+
+    fn from(_failed: OutOfMemory) -> Self {
+        SheetRefusal::OutOfMemory
+    }
+}
+
+impl<T: Drop> From<AllocFailed<T>> for SheetRefusal {
+    ghost use Rattle.std.specs.Prelude.{◌≡◌};
+    ghost use Rattle.cw_sheet.specs.declared.sheet.SheetRefusal.TheVariants as refusal;
+
+    ghost from_gives = { λ _ e. e ≡ refusal.OutOfMemory };
+
+    fn from(_failed: AllocFailed<T>) -> Self {
+        SheetRefusal::OutOfMemory
+    }
 }

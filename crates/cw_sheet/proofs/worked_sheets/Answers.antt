@@ -25,3 +25,7 @@ returns-clause-numbers c = record { word_minus_zero = refl; word_over = refl; bl
 pub returns-clause-trees : goal.returns-clause-trees
 unfolding digits
 returns-clause-trees c = record { no_nodes = refl; one_more = refl; many_more = refl; too_many = refl; own_parent = refl; number_first = refl; beneath_leaf = refl; strand_five = refl; root_no_strand = refl; childless_fork = refl }
+
+pub returns-clause-others : goal.returns-clause-others
+unfolding digits
+returns-clause-others c = record { forked = refl; placed = refl; begun = refl; no_state = refl; conflict = refl; fault = refl; budget = refl; moves = refl; no_fault = refl; words = refl; least = refl; below_least = refl }
