@@ -181,7 +181,7 @@ printf '%s' "$thousand" > source
 for at in 0 1 2 3; do
   name="thread $at of 3 refused (0: all)" threads=$((at == 0 ? 0 : 2)) own_status=0 own_text=$'c = 1000\nend\n' own_note= told=0
   for _ in $(seq "$rounds"); do
-    once thread "$at" run --workers 4
+    once thread "$at" run --workers 4 --aborts 1000000000
     if ! is_whole || [ "$made" != "$threads" ]; then tell 'the other threads go on'; fi
   done
 done
