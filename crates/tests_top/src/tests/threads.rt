@@ -91,8 +91,8 @@ impl Visits {
 }
 
 // A gate for two workers. The first one that comes to the point `at` waits there, until the other one has come to the point `until`
-// as often as `times` says. Before that, each waits until the other has come at all: otherwise one could do everything before the
-// other's thread runs.
+// as often from then on as `times` says. Before that, each waits until the other has come at all: otherwise one could do everything
+// before the other's thread runs.
 #[derive(Drop)]
 struct Hold {
     at: Point,
@@ -147,7 +147,8 @@ impl Gate for Hold {
             mine.until.fetch_add(1, Ordering::SeqCst);
         }
         if point == self.at && self.held.fetch_add(1, Ordering::SeqCst) == 0 {
-            self.wait_for(&other.until, self.times);
+            let before = other.until.load(Ordering::SeqCst);
+            self.wait_for(&other.until, before.saturating_add(self.times));
         }
     }
 }
