@@ -34,8 +34,9 @@ once() {
   REFUSE_CALL=$1 REFUSE_AT=$2 REFUSE_NOTES=$folder/notes timeout 20 env LD_PRELOAD="$folder/refuse.so" "$program" "${@:3}" < source > text 2> note
   status=$?
   runs=$((runs + 1))
-  IFS= read -r -d '' text < text
-  IFS= read -r -d '' note < note
+  # a zero byte ends what is read
+  if IFS= read -r -d '' text < text; then text+='and a zero byte'; fi
+  if IFS= read -r -d '' note < note; then note+='and a zero byte'; fi
   made=0
   refused=
   while read -r line; do
@@ -99,6 +100,7 @@ sweep() {
     if [ -z "$least" ] || [ "$at" -lt "$least" ]; then least=$at; fi
     if [ "$at" -gt "$most" ]; then most=$at; fi
   done
+  if [ "$least" -lt 1 ]; then tell 'no growth was seen'; fi
   printf '%s: %s to %s growths, %s runs, %s s: %s out of memory, %s fewer threads, %s full deque, %s fault beside, %s no note, %s wrong\n' \
     "$name" "$least" "$most" "$((runs - before))" "$((SECONDS - begin))" "$ended" "$fewer" "$kept" "$faulted" "$silent" "$((wrong - bad))"
 }
@@ -109,11 +111,18 @@ faults_beside=
 # ## What goes between
 
 cc -shared -fPIC -O1 -o refuse.so "$root/outside/refuse.c" -ldl > cc.log 2>&1 || not_tried "no C compiler: $(head -n 1 cc.log)"
+printf '#include <stdlib.h>\nint main(void) { char *volatile room = malloc(8); return room == NULL; }\n' > probe.c
+cc -O0 -o probe probe.c > cc.log 2>&1 || not_tried "no C compiler: $(head -n 1 cc.log)"
+: > notes
+REFUSE_CALL=growth REFUSE_AT=1 REFUSE_NOTES=$folder/notes LD_PRELOAD=$folder/refuse.so ./probe
+grep -q '^refused' notes || not_tried 'nothing can go between a program and the C library here'
+
 printf 'fn main() {}' > source
+name='an empty main, 2 workers' threads=1 own_status=0 own_text=$'end\n' own_note= told=0
 once growth 1 run --workers 2
-seen=$refused
+if [ -z "$refused" ]; then tell 'no growth was seen'; fi
 once none 0 run --workers 2
-if [ -z "$seen" ] || [ "$made" != 1 ]; then not_tried 'the program does not call the functions that go between'; fi
+if ! is_whole || [ "$made" != 1 ]; then tell 'nothing was refused'; fi
 
 # ## Programs
 
@@ -203,7 +212,7 @@ fail() {
     at=$((at + 1))
     once "$1" "$at" run --workers 2
   done
-  if ! is_whole; then tell "call $at is none"; fi
+  if ! is_whole || [ "$at" = 1 ]; then tell "call $at is none"; fi
   echo "$name: $((at - 1)) calls"
 }
 

@@ -1,4 +1,4 @@
-//! Audits of record sheets: whether a run can have been as its sheet tells. Definitions and laws; no call audits yet.
+//! Audits of record sheets: whether all that a sheet says fits together. Definitions and laws; no call audits yet.
 //! Use the laws to conclude from its parts that a sheet tells a coherent run, or from a coherent record that its sheet is sound.
 //! Contracts cite `specs/Audits.antt` (what an audit answers), over `specs/Parts.antt` (the parts) and `specs/Journals.antt` (the
 //! journals that a tree tells), and `specs/Laws.antt` (what the parts say together). `specs/TwoBlocks.antt` and `Together` are short

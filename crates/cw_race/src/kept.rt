@@ -6,7 +6,7 @@ use cw_order::Steps;
 use cw_sp::Pairs;
 use std::sync::ledger::Ledger;
 
-/// What is kept of the accesses of one cell in one block: the last writer, and one reader.
+/// What is kept of the accesses of one cell that have the same innermost block, or none: the last writer, and one reader.
 #[derive(Clone, Copy)]
 pub(crate) struct Kept {
     pub(crate) writer: Option<u32>,

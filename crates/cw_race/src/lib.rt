@@ -1,4 +1,4 @@
-//! Races inside blocks: accesses of one cell in one block that are in parallel, one of which writes.
+//! Races inside blocks: accesses of one cell that are in parallel, one of which writes, and that no inner block keeps apart.
 //! Use `races` on the record of one worker's run.
 //! Contracts cite `specs/Races.antt` (races, and the first one of each cell) and `specs/Kept.antt` (accesses in two orders, what is kept of
 //! them, and what that tells). `specs/Worked.antt` tries them.

@@ -6,7 +6,7 @@ use std::test::Fail;
 fn blocks_are_rolled_back(rt: HostRuntime) -> Result<(), Fail> {
     let table: [(&str, &[i64], &[Call], &str); 5] = [
         (
-            "the first node of a block that falls is a write",
+            "the first node of a block that is rolled back is a write",
             &[0, 7],
             &[
                 Call::Fork(0),
@@ -70,8 +70,8 @@ fn blocks_are_rolled_back(rt: HostRuntime) -> Result<(), Fail> {
             ],
             "8 5 3 4 5 conflict 2 last 5 asker 9 block 4 victim 6 attempt 1 of 5 chain 3 chain 8 7 6 nodes 0 1 0 2 0 0 3 6-12 7 0 11 0 8 0 10 0 9 0 16-18 17 0 4-15 5 13 14 refused 17 by 4 cell 3=8 13=8 cell 14=7 cell 5=5 17=6",
         ),
-        // The log of the outer block then has two writes of cell 0. Strand 1 made its own after the first was undone and before the
-        // second, so only the second is undone.
+        // The log of the outer block then has two writes of cell 0. Strand 1 made its own between them, once the first was undone, so
+        // the rollback of the outer block undoes the second write alone.
         (
             "an inner block is rolled back, another strand comes to its cell, and the outer block is rolled back",
             &[0, 0, 0],
@@ -111,7 +111,7 @@ fn blocks_are_rolled_back(rt: HostRuntime) -> Result<(), Fail> {
             ],
             "3 4 conflict 1 last 6 asker 9 block 5 victim 7 attempt 1 of 6 5 6 7 conflict 2 last 16 asker 12 block 15 victim 3 attempt 1 of 16 chain 10 5 9 nodes 0 1-23 2 0 3-17 4 0 7-9 8 0 12-14 13 0 5-11 6 0 20-22 21 0 10 15-19 16 18 refused 9 by 5 refused 15 by 15 cell 10=5 18=5 21=9 cell cell 16=7",
         ),
-        // The asker first stands in no block of its own, so none falls. Then it stands in two, and the outer one falls.
+        // The asker first stands in no block of its own, so none has to be rolled back. Then it is in two, and the outer one has to be.
         (
             "an access is refused below a common block",
             &[0],
