@@ -25,7 +25,7 @@ for crate; do
   cp -r "wrong-bodies/$crate" "crates/$crate/must-fail"
   wanted=$((wanted + $(find "crates/$crate/must-fail" -name '*.edit' | wc -l)))
 done
-rt ci "$@" 2>&1 | tee "$folder/said" | sed -n 's/^rt: must-fail //p; /^rt: .* trying /s/^rt: //p; /^rt: FAILED/s/^rt: //p'
+rt ci "$@" 2>&1 | tee "$folder/said" | sed -un 's/^rt: must-fail //p; /^rt: .* trying /s/^rt: //p; /^rt: FAILED/s/^rt: //p'
 refused=$(grep -c 'must-fail .*: refused, as it must be' "$folder/said")
 echo "$refused refused, $((wanted - refused)) not"
 [ "$refused" = "$wanted" ]

@@ -388,6 +388,11 @@ pub record BrokenSheets : Type 0 where
   -- a word too many; a limit out of range; an end at what is no strand
   pub word : IsAudit (record two_writers { words = pos 7 ∷ [] }) (Broken 5)
   pub no_fuel : IsAudit (record two_writers { limits = record default_limits { fuel = 0 } }) (Broken 5)
+  pub many_strands : IsAudit (record two_writers { limits = record default_limits { strands = 1000001 } }) (Broken 5)
+  pub much_fuel : IsAudit (record two_writers { limits = record default_limits { fuel = 1000000001 } }) (Broken 5)
+  pub large_size : IsAudit (record two_writers { limits = record default_limits { size = 10000001 } }) (Broken 5)
+  pub many_aborts : IsAudit (record two_writers { limits = record default_limits { aborts = 1000000001 } }) (Broken 5)
+  pub many_moves : IsAudit (record two_writers { limits = record default_limits { moves = 1000000001 } }) (Broken 5)
   pub no_strand : IsAudit (stopped_by 1 3) (Broken 5)
   -- a block is pending inside one that was rolled back
   pub pending_inside : IsAudit (writers (writers_tree 1 (committed 2 2 6) (pending 6 5) (last_write 0 (pos 2))) (refused_write ∷ []) Moves) (Broken 5)

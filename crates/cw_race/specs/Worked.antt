@@ -4,9 +4,9 @@ use Rattle.std.specs.List.{list_any}
 use Rattle.cw_tree.specs.declared.node.Node.{Node}
 use Rattle.cw_tree.specs.declared.node.Kind.TheVariants.{Strand, Fork, Read, Write, Cancel}
 use Rattle.cw_tree.specs.Nodes.{all_nodes}
-use Rattle.cw_tree.specs.Worked.{plain, committed, aborted}
+use Rattle.cw_tree.specs.Worked.{plain, committed, aborted, pending}
 use Rattle.cw_race.specs.Kept.{races, is_free_of_races, kept_reader, last_writer, rival}
-use Rattle.cw_race.specs.Races.{are_racing, number_of_accesses}
+use Rattle.cw_race.specs.Races.{IsFirstRace, are_racing, number_of_accesses}
 
 -- ## What is kept
 
@@ -85,6 +85,27 @@ rolled_back =
     plain 0 Strand 0 ∷ aborted 0 1 5 ∷ plain 1 Fork 2 ∷ plain 2 Strand 0 ∷ plain 3 (Write 0 (pos 1)) 3 ∷ plain 2 Strand 0
     ∷ plain 5 (Write 0 (pos 2)) 4 ∷ []
 
+-- the same, where the rolled-back block is around the block of the writes
+abbrev pub rolled_back_around : List Node
+rolled_back_around =
+    plain 0 Strand 0 ∷ aborted 0 1 7 ∷ committed 1 2 6 ∷ plain 2 Fork 3 ∷ plain 3 Strand 0 ∷ plain 4 (Write 0 (pos 1)) 4 ∷ plain 3 Strand 0
+    ∷ plain 6 (Write 0 (pos 2)) 5 ∷ []
+
+-- a write in each strand of a fork in a pending block
+abbrev pub still_pending : List Node
+still_pending =
+    plain 0 Strand 0 ∷ pending 0 1 ∷ plain 1 Fork 2 ∷ plain 2 Strand 0 ∷ plain 3 (Write 0 (pos 1)) 3 ∷ plain 2 Strand 0 ∷ plain 5 (Write 0 (pos 2)) 4 ∷ []
+
+-- the left strand writes in a block of its own, the right one outside it
+abbrev pub left_apart : List Node
+left_apart =
+    plain 0 Strand 0 ∷ committed 0 1 7 ∷ plain 1 Fork 2 ∷ plain 2 Strand 0 ∷ committed 3 3 5 ∷ plain 4 (Write 0 (pos 1)) 4 ∷ plain 2 Strand 0
+    ∷ plain 6 (Write 0 (pos 2)) 6 ∷ []
+
+-- a tree that is not numbered depth first: the write of the left strand is node 5, that of the right one node 4
+abbrev pub late_left : List Node
+late_left = plain 0 Strand 0 ∷ plain 0 Fork 1 ∷ plain 1 Strand 0 ∷ plain 1 Strand 0 ∷ plain 3 (Write 0 (pos 1)) 2 ∷ plain 2 (Write 0 (pos 2)) 3 ∷ []
+
 abbrev pub Racing : Type 0
 Racing =
     (are_racing lost_update 0 5 7 ≡ true)
@@ -96,6 +117,9 @@ Racing =
     × (are_racing half_apart 0 4 8 ≡ true)
     × (are_racing outside 0 3 5 ≡ true)
     × (are_racing given_up 0 4 6 ≡ true)
+    × (are_racing still_pending 0 4 6 ≡ true)
+    × (are_racing late_left 0 5 4 ≡ true)
+    × (are_racing late_left 0 4 5 ≡ false)
     × (number_of_accesses lost_update ≡ 4)
     × (number_of_accesses given_up ≡ 2)
 
@@ -110,3 +134,9 @@ Quiet =
     × (has_race kept_apart 0 ≡ false)
     × (has_race joined 0 ≡ false)
     × (has_race rolled_back 0 ≡ false)
+    × (has_race rolled_back_around 0 ≡ false)
+    × (has_race left_apart 0 ≡ false)
+
+-- The write of the right strand races with what the left one did, but its read is the first that does.
+abbrev pub Later : Type 0
+Later = IsFirstRace lost_update (record { cell = 0; first = 4; second = 8 }) → ⊥

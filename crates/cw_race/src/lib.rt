@@ -5,7 +5,7 @@
 #![tactic(auto)]
 
 ghost use Rattle.cw_race.specs.Kept.{KeptIsEnough, RivalsRace};
-ghost use Rattle.cw_race.specs.Worked.{Keeping, Racing, Quiet};
+ghost use Rattle.cw_race.specs.Worked.{Keeping, Racing, Quiet, Later};
 
 mod finding;
 mod kept;
@@ -27,4 +27,5 @@ pub fn worked_races()
     ensures kept { Keeping }
     ensures racing { Racing }
     ensures quiet { Quiet }
+    ensures later { Later }
 {}

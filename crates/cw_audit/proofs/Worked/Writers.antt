@@ -231,6 +231,31 @@ no_fuel =
     broken_row (record two_writers { limits = record default_limits { fuel = 0 } }) strands (stamps_of 0 (pos 2), accesses_of (pos 2), blocks_of (pos 2), refusals_of _ (pos 2) (pos 2 ∷ []) [], tt, tt, tt, tt)
     (λ w. (let e : 1 ≤ 0 = w.limits.fuel.0 in absurd (omega (arith, e))))
 
+pub many_strands : IsAudit (record two_writers { limits = record default_limits { strands = 1000001 } }) (Broken 5)
+many_strands =
+    broken_row (record two_writers { limits = record default_limits { strands = 1000001 } }) strands (stamps_of 0 (pos 2), accesses_of (pos 2), blocks_of (pos 2), refusals_of _ (pos 2) (pos 2 ∷ []) [], tt, tt, tt, tt)
+    (λ w. (let e : 1000001 ≤ 1000000 = w.limits.strands.1 in absurd (omega (arith, e))))
+
+pub much_fuel : IsAudit (record two_writers { limits = record default_limits { fuel = 1000000001 } }) (Broken 5)
+much_fuel =
+    broken_row (record two_writers { limits = record default_limits { fuel = 1000000001 } }) strands (stamps_of 0 (pos 2), accesses_of (pos 2), blocks_of (pos 2), refusals_of _ (pos 2) (pos 2 ∷ []) [], tt, tt, tt, tt)
+    (λ w. (let e : 1000000001 ≤ 1000000000 = w.limits.fuel.1 in absurd (omega (arith, e))))
+
+pub large_size : IsAudit (record two_writers { limits = record default_limits { size = 10000001 } }) (Broken 5)
+large_size =
+    broken_row (record two_writers { limits = record default_limits { size = 10000001 } }) strands (stamps_of 0 (pos 2), accesses_of (pos 2), blocks_of (pos 2), refusals_of _ (pos 2) (pos 2 ∷ []) [], tt, tt, tt, tt)
+    (λ w. (let e : 10000001 ≤ 10000000 = w.limits.size.1 in absurd (omega (arith, e))))
+
+pub many_aborts : IsAudit (record two_writers { limits = record default_limits { aborts = 1000000001 } }) (Broken 5)
+many_aborts =
+    broken_row (record two_writers { limits = record default_limits { aborts = 1000000001 } }) strands (stamps_of 0 (pos 2), accesses_of (pos 2), blocks_of (pos 2), refusals_of _ (pos 2) (pos 2 ∷ []) [], tt, tt, tt, tt)
+    (λ w. (let e : 1000000001 ≤ 1000000000 = w.limits.aborts.1 in absurd (omega (arith, e))))
+
+pub many_moves : IsAudit (record two_writers { limits = record default_limits { moves = 1000000001 } }) (Broken 5)
+many_moves =
+    broken_row (record two_writers { limits = record default_limits { moves = 1000000001 } }) strands (stamps_of 0 (pos 2), accesses_of (pos 2), blocks_of (pos 2), refusals_of _ (pos 2) (pos 2 ∷ []) [], tt, tt, tt, tt)
+    (λ w. (let e : 1000000001 ≤ 1000000000 = w.limits.moves.1 in absurd (omega (arith, e))))
+
 pub pending_inside : IsAudit (writers (writers_tree 1 (committed 2 2 6) (pending 6 5) (last_write 0 (pos 2))) (refused_write ∷ []) Moves) (Broken 5)
 pending_inside =
     let t = writers_tree 1 (committed 2 2 6) (pending 6 5) (last_write 0 (pos 2)) in
