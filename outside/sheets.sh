@@ -134,8 +134,8 @@ reads S 's/^write 10 11 0 2/write 10 18446744073709551615 4294967295 -9223372036
 reads S 's/^memory 2/memory/'
 reads S '/^conflicts/,/^0 3/c conflicts 0'
 reads B 's/^budget 5/budget 4294967295/'
-reads C 's/^cancel .*/cancel 1 5 0/'
-reads C 's/^cancel .*/cancel 1 5 3 7 -5 7 9223372036854775807 0 0/'
+reads C 's/^cancel 1 .*/cancel 1 5 0/'
+reads C 's/^cancel 1 .*/cancel 1 5 3 7 -5 7 9223372036854775807 0 0/'
 reads C 's/^out 1 4 9/out 1 4 -9/'
 for kind in Zero Overflow Range Depth Fuel Size; do reads P "/^finished$/,/^outputs/c fault 7 $kind"; done
 
