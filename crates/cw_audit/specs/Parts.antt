@@ -91,5 +91,5 @@ pub record StrandsHold (c : Contents) : Type 0 where
 pub record EndHolds {A : Type 0} (s : Strands A) (t : List Node) (first : List ℤ) (e : RecordEnd) : Type 0 where
   pub faulted : MayFault t (halt_of e)
   pub memory : HasMemory t first e
-  -- of any end but a finished run's, part 5 says this already
+  -- part 5 says this already, unless the run finished
   pub done : CanHaveDone s t e

@@ -10,7 +10,7 @@ use Rattle.cw_race.specs.Races.{IsFirstRace, are_racing, number_of_accesses}
 
 -- ## What is kept
 
--- positions of three accesses, of which the first two are in parallel, and so are the first and the last
+-- positions of three accesses: the first two are in parallel, and so are the first and the last
 abbrev pub forked : ℕ → ℕ
 forked = slice_index (9 ∷ 4 ∷ 5 ∷ [])
 

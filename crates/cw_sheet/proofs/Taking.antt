@@ -98,7 +98,7 @@ module _ {A : Type 0} (each : Place → Taken A) (start : Place) where
         ∙ ap (λ t. t into λ ys r. took (xs ++ ys) r) (end_of (length start.text - length xs) h)
         ∙ ap (λ l. took l p) (append-nil xs)
 
--- ## Exactly so many
+-- ## A given number of items
 
 -- xs were taken so far, of n, and p is behind them
 pub record HasTakenOf {A : Type 0} (n : ℕ) (each : ℕ → Place → Taken A) (start : Place) (xs : List A) (k : ℕ) (p : Place) : Type 0 where

@@ -135,7 +135,7 @@ fn conflict_row(alloc: Global, cursor: &mut Cursor<'_>) -> Result<Conflict, Shee
     })
 }
 
-// Takes the lines of so many conflicts.
+// Takes the lines of `count` conflicts.
 fn conflicts_of(
     alloc: Global,
     cursor: &mut Cursor<'_>,

@@ -173,7 +173,7 @@ fn node(alloc: Global, cursor: &mut Cursor<'_>, number: usize) -> Result<Node, S
     Ok(cursor.short_node(word, number)?)
 }
 
-// Takes the lines of so many nodes.
+// Takes the lines of `count` nodes.
 fn nodes_of(alloc: Global, cursor: &mut Cursor<'_>, count: usize) -> Result<Vec<Node>, SheetRefusal>
     ensures { Takes result (λ v. v.items) (exactly count 0 node (place_of cursor.old)) (place_of cursor.new) }
 {

@@ -130,7 +130,7 @@ left n = goes_on n (left_of start)
 abbrev pub right : ℕ → Past
 right n = goes_on n (right_of start)
 
--- part 5, of which most computes
+-- part 5: most of it computes
 pub strands_by : (c : Contents) → TakesItsWords c → AreInRange c.limits → is_strand c.tree (ending_strand c.end) ≡ true
     → all_pairs (last_test c.tree) (length c.tree) ≡ true → all_pairs (around_test c.tree) (length c.tree) ≡ true
     → all_below (tried_test c.tree c.conflicts) (length c.tree) ≡ true → all_below (beneath_victim_test c.tree c.conflicts) (length c.tree) ≡ true

@@ -190,7 +190,7 @@ last_of c u b cell last r =
     let T : ℕ → Type 0 = λ k. IsTrue (touches writers_run k u) in
     is_last u (subst T cell r.last.0) (r.last.1 ∙ last)
 
--- of this conflict, which does not tell what it should
+-- the sheet with this conflict, which does not fit its tree
 lies : (c : Conflict) → (AreRefusals writers_run (c ∷ []) → ⊥) → IsAudit (writers writers_run (c ∷ []) (Finished (pos 2 ∷ []) [])) (Broken 4)
 lies c fails =
     broken_row (writers writers_run (c ∷ []) (Finished (pos 2 ∷ []) [])) refusals (stamps_of 0 (pos 2), accesses_of (pos 2), blocks_of (pos 2), tt, tt, tt, tt, tt)
