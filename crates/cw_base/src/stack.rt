@@ -1,4 +1,4 @@
-ghost use Rattle.std.specs.Prelude.{◌≡◌, [], ◌∷◌, length, drop, MatchOption, IfOk, OnOk, OnErr};
+ghost use Rattle.std.specs.Prelude.{◌≡◌, [], ◌∷◌, length, drop, reverse, MatchOption, IfOk, OnOk, OnErr};
 
 use crate::OutOfMemory;
 use std::alloc::Global;
@@ -31,6 +31,13 @@ impl<T: Drop> Stack<T> {
         ensures { result ≡ length self.now }
     {
         self.items.len()
+    }
+
+    /// Returns the elements, the oldest first.
+    pub fn as_slice(&self) -> &[T]
+        ensures { self.now ≡ reverse result.now }
+    {
+        self.items.as_slice()
     }
 
     pub fn push(&mut self, item: T) -> Result<(), OutOfMemory>
