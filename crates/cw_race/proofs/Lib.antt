@@ -5,3 +5,4 @@ pub mod Searching
 pub mod Noting
 pub mod Counted
 pub mod Listing
+pub mod Agreeing

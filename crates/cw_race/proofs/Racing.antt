@@ -89,7 +89,7 @@ access_there t c n e = node_there (λ x. touches_kind c x.kind) t n e
 -- ## Positions
 
 -- two numbers at one position of a list are one
-one_place : (u v : ℕ) (xs : List ℕ) → In u xs → position xs u ≡ position xs v → u ≡ v
+pub one_place : (u v : ℕ) (xs : List ℕ) → In u xs → position xs u ≡ position xs v → u ≡ v
 one_place u v [] i e = absurd i
 one_place u v (x ∷ xs) i e =
     by (cases_eq x u) (cases_eq x v) i (one_place u v xs) where

@@ -7,6 +7,7 @@ use Rattle.cw_tree.specs.declared.node.Kind.{Kind}
 use Rattle.cw_tree.specs.declared.node.Kind.TheVariants.{Read, Write}
 use Rattle.cw_tree.specs.Nodes.{touches, all_nodes}
 use Rattle.cw_tree.specs.Walks.{xparent}
+use Rattle.cw_tree.specs.Shape.{IsTree}
 use Rattle.cw_tree.specs.Series.{parallel}
 use Rattle.cw_tree.specs.Accesses.{is_live, written}
 use Rattle.cw_sp.specs.Orders.{english, stands_before}
@@ -37,6 +38,14 @@ pub record AreRaces (t : List Node) (rs : List Race) : Type 0 where
   pub rising : IsStrictlySortedBy nat_cmp (map (λ r. r.cell) rs)
   pub first : All (IsFirstRace t) rs
   pub all : (c u v : ℕ) → IsTrue (are_racing t c u v) → Contains (map (λ r. r.cell) rs) c
+
+-- the cell and the second access of a race
+abbrev pub later_of : Race → ℕ × ℕ
+later_of r = (r.cell, r.second)
+
+-- any two such lists of a tree name the same cells, with the same second accesses
+abbrev pub RacesAgree : Type 0
+RacesAgree = (t : List Node) → IsTree t → (rs ss : List Race) → AreRaces t rs → AreRaces t ss → map later_of rs ≡ map later_of ss
 
 -- ## How many accesses there are
 

@@ -5,6 +5,7 @@
 #![tactic(auto)]
 
 ghost use Rattle.cw_race.specs.Kept.{KeptIsEnough, RivalsRace};
+ghost use Rattle.cw_race.specs.Races.{RacesAgree};
 ghost use Rattle.cw_race.specs.Worked.{Keeping, Racing, Quiet, Later};
 
 mod finding;
@@ -20,6 +21,12 @@ pub use race::Race;
 pub fn kept_is_enough()
     ensures enough { KeptIsEnough }
     ensures rivals { RivalsRace }
+{}
+
+/// Law: the list of the races of a tree is one up to the first accesses: any two such lists name the same cells, each with the same second
+/// access.
+pub fn races_agree()
+    ensures { RacesAgree }
 {}
 
 /// Computed examples: what is kept of a few accesses, and which accesses of small trees race.
