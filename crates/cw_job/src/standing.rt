@@ -86,6 +86,19 @@ impl Standing {
         Ok(())
     }
 
+    /// Returns a copy, which is in the same state and wants the same. Costs what all its functions cost, those that wait
+    /// too.
+    pub fn copied(&self, alloc: Global) -> Result<Standing, OutOfMemory>
+        ensures same { IfOk result (λ x. state_of x ≡ state_of self.now) }
+        ensures stands { IfOk result (λ x. (program : Program) → IsOf program self.now → IsOf program x) }
+    {
+        let strand = self.strand.copied(alloc)?;
+        Ok(Standing {
+            strand,
+            want: self.want,
+        })
+    }
+
     /// Keeps what the strand needs to be here again, at the begin of a block that it wants.
     pub fn save(&self) -> Result<Saved, OutOfMemory>
         ensures { IfOk result (λ saved. (program : Program) → IsOf program self.now → (strands_of_job (bare_job program)).want (state_of self.now) ≡ Want.Begin →

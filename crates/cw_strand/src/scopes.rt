@@ -1,4 +1,4 @@
-ghost use Rattle.std.specs.Prelude.{◌≡◌, ◌<◌, [], ◌∷◌, length, drop, MatchOption, OnOk, OnErr};
+ghost use Rattle.std.specs.Prelude.{◌≡◌, ◌<◌, [], ◌∷◌, length, drop, MatchOption, IfOk, OnOk, OnErr};
 ghost use Rattle.cw_strand.specs.Meaning.{one_inside};
 ghost use Rattle.cw_strand.specs.Saving.{lowest};
 
@@ -65,6 +65,15 @@ impl Scopes {
         ensures { MatchOption result (self.now ≡ []) (λ x. self.now ≡ x ∷ drop 1 self.now) }
     {
         self.forks.last().copied()
+    }
+
+    /// Returns a copy.
+    pub fn copied(&self) -> Result<Scopes, OutOfMemory>
+        ensures { IfOk result (λ s. s ≡ self.now) }
+    {
+        Ok(Scopes {
+            forks: self.forks.clone()?,
+        })
     }
 
     /// Keeps the outermost `below` scopes, and opens one on them that waits for nothing. Takes no memory.

@@ -3,6 +3,7 @@ ghost use Rattle.std.specs.Prelude.{◌≡◌, length, IfOk};
 mod acting;
 mod calls;
 mod cells;
+mod copying;
 mod locals;
 mod operands;
 mod saving;
