@@ -69,10 +69,10 @@ tree_has_none (func n l ps b ∷ ds) h =
 
 pub language_one_has_none : (newest : ℕ) (text : List ℕ) (s : Source) → 1 ≤ newest → program newest text ≡ Ok s → s.language ≡ 1 → has_cancel s.items ≡ false
 language_one_has_none newest text s some is one =
-    let h = text_is_readable newest text s some is in
+    let h = text_is_readable newest 1048576 text s some is in
     tree_has_none s.items (subst (λ n. AreSpellable (keywords_of n) (tokens s.items)) one h.spellable)
 
 pub newest_one_has_none : (text : List ℕ) (s : Source) → program 1 text ≡ Ok s → has_cancel s.items ≡ false
 newest_one_has_none text s is =
-    let h = text_is_readable 1 text s (omega arith) is in
+    let h = text_is_readable 1 1048576 text s (omega arith) is in
     language_one_has_none 1 text s (omega arith) is (omega (arith, h.some, h.new))

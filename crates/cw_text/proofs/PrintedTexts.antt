@@ -10,7 +10,7 @@ use Rattle.cw_text.specs.Printed.{IsReadable, Placed, bracketed, declaration_tok
 use Rattle.cw_text.specs.PrintedText.{AreSpellable, blank_behind, more as spells, none as nothing, printed_text, source_tokens, spelled, text_of}
 use Rattle.cw_text.specs.Syntax.{Term, Terms, number, name, at, call, unary, binary, none, more, Statement, Block, empty, first, Declaration, Source, declare, assign, assign_at, run, out, choose, repeat, atomic, spawn, sync, cancel, return, cell, func}
 use Rattle.cw_text.specs.Grammar.{program_of}
-use Rattle.cw_text.specs.Text.{is_headed, items_of, language_of, program, reading, source_in, with_language}
+use Rattle.cw_text.specs.Text.{is_headed, items_of, language_of, reading, source_in, with_language}
 use Rattle.cw_text.specs.WithoutLines.{IsSourceReadAs, tokens_without_lines, word_without_line, term_without_lines, terms_without_lines, statement_without_lines, block_without_lines, declaration_without_lines, tree_without_lines}
 use Rattle.cw_text.proofs.Forgotten.{same_but_lines}
 use Rattle.cw_text.proofs.PrintedIsWritten.{printed_is_written}
@@ -88,10 +88,10 @@ source_undone newest most s some new known readable spellable short =
     rw (reading_is newest most (printed_text s) short (text_is_utf8 (source_tokens s) (both_spellable (heading_spellable s.language some (omega arith)) spellable)))
     (source_read newest s.language s.items some new known readable spellable)
 
-pub text_undone : (newest : ℕ) (text : List ℕ) (s : Source) → 1 ≤ newest → newest ≤ 2 → program newest text ≡ Ok s → length (printed_text s) ≤ 1048576 → IsSourceReadAs (program newest (printed_text s)) s
-text_undone newest text s some known is short =
-    let h = text_is_readable newest text s some is in
-    source_undone newest 1048576 s h.some h.new known h.readable h.spellable short
+pub text_undone : (newest most : ℕ) (text : List ℕ) (s : Source) → 1 ≤ newest → newest ≤ 2 → reading newest most text ≡ Ok s → length (printed_text s) ≤ most → IsSourceReadAs (reading newest most (printed_text s)) s
+text_undone newest most text s some known is short =
+    let h = text_is_readable newest most text s some is in
+    source_undone newest most s h.some h.new known h.readable h.spellable short
 
 -- ## Lines are not printed
 

@@ -16,7 +16,7 @@ use Rattle.cw_text.specs.Printed.{IsReadable, tokens}
 use Rattle.cw_text.specs.PrintedText.{AreSpellable, IsName}
 use Rattle.cw_text.specs.Grammar.{program_of}
 use Rattle.cw_text.specs.Syntax.{Declaration, Source}
-use Rattle.cw_text.specs.Text.{is_headed, items_of, language_of, program, source_in, with_language}
+use Rattle.cw_text.specs.Text.{is_headed, items_of, language_of, reading, source_in, with_language}
 use Rattle.cw_text.proofs.Headings.{language_within}
 use Rattle.cw_text.proofs.Fronts.{word_of_letter}
 use Rattle.cw_text.proofs.Spellable.{CanBeSpelled, read_is_spellable, rest_spelled, small_numbers}
@@ -146,8 +146,8 @@ source_readable newest text s (Ok n) known named is =
     items_readable newest n (items_of xs) s (program_of (items_of xs)) within.0 within.1 (items_spelled (keywords_of n) xs (lexemes_spelled (keywords_of n) 1 0 text)) refl is
 
 -- a text is read as what its tokens are, or refused
-pub text_is_readable : (newest : ℕ) (text : List ℕ) (s : Source) → 1 ≤ newest → program newest text ≡ Ok s → CanBeRead newest s
-text_is_readable newest text s known =
-    cond_both (nat_lt 1048576 (length text)) _ _ (λ r. r ≡ Ok s → CanBeRead newest s) (λ _ h. cc)
+pub text_is_readable : (newest most : ℕ) (text : List ℕ) (s : Source) → 1 ≤ newest → reading newest most text ≡ Ok s → CanBeRead newest s
+text_is_readable newest most text s known =
+    cond_both (nat_lt most (length text)) _ _ (λ r. r ≡ Ok s → CanBeRead newest s) (λ _ h. cc)
     (λ _. cond_both (nat_lt (utf8_valid_len text) (length text)) _ _ (λ r. r ≡ Ok s → CanBeRead newest s) (λ _ h. cc)
     (λ _ h. source_readable newest text s (language_of newest (lexemes keywords text)) known refl h))

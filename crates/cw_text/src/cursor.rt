@@ -26,7 +26,7 @@ pub struct Cursor<'a> {
     pub line: u32,
     rest: &'a [u8],
     rest_line: u32,
-    ghost short: { rest_line + length rest.now ≤ 2 ^ 20 + 1 },
+    ghost short: { rest_line + length rest.now ≤ 2 ^ 26 + 1 },
 }
 
 impl<'a> Cursor<'a> {
@@ -36,7 +36,7 @@ impl<'a> Cursor<'a> {
 
     /// Returns the cursor at the first token of `text`, read with the keywords of `language`.
     pub fn new(language: u32, text: &'a [u8]) -> Cursor<'a>
-        requires { length text.now ≤ 2 ^ 20 }
+        requires { length text.now ≤ 2 ^ 26 }
         ensures { tokens_left result ≡ lexemes (keywords_of language) text.now }
     {
         Cursor::first_in(language, text, 1)
@@ -44,7 +44,7 @@ impl<'a> Cursor<'a> {
 
     /// Returns the cursor at the first token behind the line that names the language.
     pub fn behind_heading(language: u32, text: &'a [u8]) -> Cursor<'a>
-        requires { length text.now ≤ 2 ^ 20 }
+        requires { length text.now ≤ 2 ^ 26 }
         ensures { tokens_left result ≡ items_of (lexemes (keywords_of language) text.now) }
     {
         let mut cursor = Cursor::new(language, text);
@@ -78,7 +78,7 @@ impl<'a> Cursor<'a> {
     // The cursor at the first token of `text`, which begins on line `line`.
     #[tactic(auto, using(crate::proofs::Fronts::front_width, crate::proofs::Passing::begun))]
     fn first_in(language: u32, text: &'a [u8], line: u32) -> Cursor<'a>
-        requires { line + length text.now ≤ 2 ^ 20 + 1 }
+        requires { line + length text.now ≤ 2 ^ 26 + 1 }
         ensures { tokens_left result ≡ lexemes_from (keywords_of language) line 0 text.now }
     {
         let words = keywords_of(language);

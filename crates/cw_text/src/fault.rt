@@ -12,7 +12,7 @@ pub enum TextKind {
     BadNumber = 3,
     /// A token that is not allowed in its place, or an end that comes too early.
     Unexpected = 4,
-    /// More than 1,048,576 bytes. Its line is 0.
+    /// More bytes than the call reads. Its line is 0.
     TooLong = 5,
     /// More than 200 open brackets and unary operators, or an expression higher than 200.
     TooDeep = 6,

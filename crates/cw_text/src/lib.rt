@@ -42,7 +42,7 @@ pub use ast::{Ast, Expr, Item, Op, Stmt, Word};
 pub use fault::{TextFault, TextKind, TextRefusal};
 pub use print::print_program;
 pub use terminal::Terminal;
-pub use text::{read_language, read_program};
+pub use text::{read_language, read_long, read_program};
 
 /// Worked texts.
 pub fn worked_texts()
@@ -97,6 +97,8 @@ pub fn reading_undoes_printing()
         length (printed_text s) ≤ most → IsSourceReadAs (reading newest most (printed_text s)) s }
     ensures texts { (newest : ℕ) (text : List ℕ) (s : Source) → 1 ≤ newest → newest ≤ 2 → program newest text ≡ Ok s →
         length (printed_text s) ≤ 1048576 → IsSourceReadAs (program newest (printed_text s)) s }
+    ensures long { (text : List ℕ) (s : Source) → reading 2 67108864 text ≡ Ok s →
+        length (printed_text s) ≤ 67108864 → IsSourceReadAs (reading 2 67108864 (printed_text s)) s }
     ensures again { (s t : Source) → s.language ≡ t.language → tree_without_lines s.items ≡ tree_without_lines t.items →
         printed_text s ≡ printed_text t }
 {}

@@ -120,7 +120,7 @@ fn numbered(cursor: &mut Cursor<'_>, newest: u32) -> Result<u32, TextRefusal>
 
 // The language that the text names, or 1 if it names none.
 fn language_of(text: &[u8], newest: u32) -> Result<u32, TextRefusal>
-    requires { length text.now ≤ 2 ^ 20 }
+    requires { length text.now ≤ 2 ^ 26 }
     ensures { IsLanguage result (language_of newest (lexemes keywords text.now)) }
 {
     let mut cursor = Cursor::new(1, text);
@@ -133,7 +133,7 @@ fn language_of(text: &[u8], newest: u32) -> Result<u32, TextRefusal>
 
 /// Reads a text in a language up to `newest`.
 pub(crate) fn source(alloc: Global, text: &[u8], newest: u32) -> Result<Ast, TextRefusal>
-    requires { length text.now ≤ 2 ^ 20 }
+    requires { length text.now ≤ 2 ^ 26 }
     ensures { Reads result (source_in (language_of newest (lexemes keywords text.now)) text.now) }
 {
     let language = language_of(text, newest)?;

@@ -1,5 +1,5 @@
 ghost use Rattle.std.specs.Prelude.{◌≡◌, ◌≤◌, ◌<◌, ◌^◌, length, ◌⊎◌};
-ghost use Rattle.cw_text.specs.Text.{line_of, program, Reads};
+ghost use Rattle.cw_text.specs.Text.{line_of, program, reading, Reads};
 
 use crate::parser::{self, refusal};
 use crate::scan::newlines;
@@ -7,8 +7,9 @@ use crate::{Ast, TextKind, TextRefusal};
 use std::alloc::Global;
 use std::str;
 
-// The most bytes that a text may have.
+// The most bytes of a text, for `read_language` and for `read_long`.
 const MAX_LEN: usize = 1_048_576;
+const MAX_LONG_LEN: usize = 67_108_864;
 
 // The line of the byte at `place`: 1 plus the number of newlines before it.
 fn line_of(text: &[u8], place: usize) -> u32
@@ -33,18 +34,11 @@ fn line_of(text: &[u8], place: usize) -> u32
 /// 0 is a `BadNumber` too.
 /// Lines are counted from 1, and the end of the text is on its last line. `OutOfMemory` says nothing about the text.
 /// `read_language` refuses a language after `newest` as `Unexpected`, at its number.
-#[tactic(auto, using(crate::proofs::Readings::reading_is))]
 pub fn read_language(alloc: Global, bytes: &[u8], newest: u32) -> Result<Ast, TextRefusal>
     requires newest { (newest ≡ 1) ⊎ (newest ≡ 2) }
     ensures exact { Reads result (program newest bytes.now) }
 {
-    if bytes.len() > MAX_LEN {
-        return Err(refusal(TextKind::TooLong, 0));
-    }
-    if let Err(error) = str::from_utf8(bytes) {
-        return Err(refusal(TextKind::NotUtf8, line_of(bytes, error.valid_up_to())));
-    }
-    parser::source(alloc, bytes, newest)
+    read_at_most(alloc, bytes, newest, MAX_LEN)
 }
 
 /// Like `read_language`, up to the newest language, which is 2.
@@ -52,4 +46,26 @@ pub fn read_program(alloc: Global, bytes: &[u8]) -> Result<Ast, TextRefusal>
     ensures exact { Reads result (program 2 bytes.now) }
 {
     read_language(alloc, bytes, 2)
+}
+
+/// Like `read_program`, but only a text of more than 67,108,864 bytes is `TooLong`.
+pub fn read_long(alloc: Global, bytes: &[u8]) -> Result<Ast, TextRefusal>
+    ensures exact { Reads result (reading 2 67108864 bytes.now) }
+{
+    read_at_most(alloc, bytes, 2, MAX_LONG_LEN)
+}
+
+// Reads a text of at most `most` bytes, in a language up to `newest`.
+#[tactic(auto, using(crate::proofs::Readings::reading_is))]
+fn read_at_most(alloc: Global, bytes: &[u8], newest: u32, most: usize) -> Result<Ast, TextRefusal>
+    requires most { most ≤ 2 ^ 26 }
+    ensures exact { Reads result (reading newest most bytes.now) }
+{
+    if bytes.len() > most {
+        return Err(refusal(TextKind::TooLong, 0));
+    }
+    if let Err(error) = str::from_utf8(bytes) {
+        return Err(refusal(TextKind::NotUtf8, line_of(bytes, error.valid_up_to())));
+    }
+    parser::source(alloc, bytes, newest)
 }

@@ -14,7 +14,7 @@ pub returns-clause-readable : goal.returns-clause-readable
 returns-clause-readable c = read_is_readable
 
 pub returns-clause-texts : goal.returns-clause-texts
-returns-clause-texts c = λ newest text s known h. written_is_read (printed s.items) s.items (printed_is_written s.items (text_is_readable newest text s known h).readable)
+returns-clause-texts c = λ newest text s known h. written_is_read (printed s.items) s.items (printed_is_written s.items (text_is_readable newest 1048576 text s known h).readable)
 
 pub returns-clause-lines : goal.returns-clause-lines
 returns-clause-lines c = program_of-same
