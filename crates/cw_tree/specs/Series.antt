@@ -38,10 +38,14 @@ are_ordered t c d = nat_lt 0 c && nat_lt c d && (parent_of t c == parent_of t d)
 abbrev pub is_before : List Node → ℕ → ℕ → Bool
 is_before t a b = list_any (λ c. list_any (are_ordered t c) (path t b)) (path t a)
 
--- the nodes from n down, depth first, to k levels
+-- the nodes from n down, depth first, to k levels; `order` gives the children of a node in the order of their visits
+abbrev pub walk_by : (order : ℕ → List ℕ) → ℕ → ℕ → List ℕ
+walk_by order zero n = n ∷ []
+walk_by order (suc k) n = n ∷ flat_map (walk_by order k) (order n)
+
+-- the same by the numbers of the children
 abbrev pub walk : List Node → ℕ → ℕ → List ℕ
-walk t zero n = n ∷ []
-walk t (suc k) n = n ∷ flat_map (walk t k) (children t n)
+walk t = walk_by (children t)
 
 -- all nodes, depth first
 abbrev pub depth_first : List Node → List ℕ

@@ -31,7 +31,7 @@ pub use laws::{
 };
 pub use node::{BlockState, Kind, Node};
 pub use picks::{Name, Picks, Turn};
-pub use tree::Tree;
+pub use tree::{Family, Tree};
 
 /// If neither of two nodes is an ancestor of the other, one is before the other or they are parallel.
 pub fn series_or_parallel()

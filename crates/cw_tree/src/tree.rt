@@ -3,6 +3,7 @@ ghost use Rattle.cw_tree.specs.NextNodes.{fork_nodes};
 ghost use Rattle.cw_tree.specs.Nodes.{is_block_kind, parent_of, is_strand, is_fork, is_block, is_pending, is_aborted, fresh_node, closed};
 ghost use Rattle.cw_tree.specs.Walks.{IsNumbered};
 
+mod family;
 mod name;
 mod order;
 mod strands;
@@ -10,6 +11,7 @@ mod walks;
 
 use crate::{BlockState, Kind, Node};
 use cw_base::OutOfMemory;
+pub use family::Family;
 use std::alloc::Global;
 use std::marker::Model;
 

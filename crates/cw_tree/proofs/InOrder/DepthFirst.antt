@@ -1,47 +1,19 @@
--- The walk down from a node: how many levels are enough, and how it goes on over a stack.
-use Rattle.std.proofs.Common.{◌≡◌, ℕ, zero, suc, ◌+◌, ◌<◌, ◌≤◌, List, [], ◌∷◌, ◌++◌, length, reverse, refl, ap, sym, ◌∙◌, arith, Bool, true, false, cond, subst, nat_lt, nat_eq, length-append, append_assoc, append-nil}
-use Rattle.std.specs.Prelude.{All}
-use Rattle.std.specs.List.{filter, flat_map}
-use Rattle.std.proofs.lemmas.Bool.{and_parts, ltb-true, eqb-true, false_from_ne_true, and_from, lt-ltb, eq-eqb}
+-- The walk down from a node, with the children of each node in some order: how many levels are enough, and how it goes on over a stack of
+-- nodes that are still to be visited, the next one last.
+use Rattle.std.proofs.Common.{◌≡◌, ℕ, zero, suc, ◌+◌, ◌<◌, ◌≤◌, List, [], ◌∷◌, ◌++◌, length, reverse, refl, ap, sym, ◌∙◌, arith, subst, nat_lt, nat_eq, inl, inr, append_assoc, append-nil}
+use Rattle.std.specs.List.{flat_map}
+use Rattle.std.proofs.lemmas.Bool.{and_parts, ltb-true, eqb-true, and_from, lt-ltb, eq-eqb}
 use Rattle.std.proofs.lemmas.List.{reverse-append, reverse-reverse}
-use Rattle.std.proofs.lemmas.List.Elements.{filter-append, All-append, All-push}
 use Rattle.std.proofs.lemmas.Grind.{flat_map-append}
-use Rattle.std.proofs.Math.ListN.{get_or-append}
 use Rattle.cw_tree.specs.declared.node.Node.{Node}
 use Rattle.cw_tree.specs.Nodes.{parent_of, below}
 use Rattle.cw_tree.specs.Walks.{IsRooted}
-use Rattle.cw_tree.specs.Series.{children, walk, depth_first}
+use Rattle.cw_tree.specs.Series.{children, walk_by, walk}
 use Rattle.cw_tree.specs.Links.{is_child}
 use Rattle.cw_tree.proofs.Lists.{In}
-use Rattle.cw_tree.proofs.Members.{in_filter, in_below, all_of, filter_in, below_in}
-use Rattle.cw_tree.proofs.Rising.{Rises, rises_filter, below_rises}
-
--- two functions that agree on the numbers that pass a test
-flat_map_step : (f g : ℕ → List ℕ) (p : ℕ → Bool) (k : ℕ) (b : Bool) → p k ≡ b → (p k ≡ true → f k ≡ g k) → flat_map f (filter p (below k)) ≡ flat_map g (filter p (below k)) → flat_map f (filter p (below k) ++ cond b (k ∷ []) []) ≡ flat_map g (filter p (below k) ++ cond b (k ∷ []) [])
-flat_map_step f g p k true e same more =
-    flat_map-append f (filter p (below k)) (k ∷ []) ∙ ap (λ xs. xs ++ (f k ++ [])) more ∙ ap (λ xs. flat_map g (filter p (below k)) ++ (xs ++ [])) (same e) ∙ sym (flat_map-append g (filter p (below k)) (k ∷ []))
-flat_map_step f g p k false e same more =
-    flat_map-append f (filter p (below k)) [] ∙ ap (λ xs. xs ++ []) more ∙ sym (flat_map-append g (filter p (below k)) [])
-
-flat_map_same : (f g : ℕ → List ℕ) (p : ℕ → Bool) (k : ℕ) → ((n : ℕ) → n < k → p n ≡ true → f n ≡ g n) → flat_map f (filter p (below k)) ≡ flat_map g (filter p (below k))
-flat_map_same f g p zero h = refl
-flat_map_same f g p (suc k) h =
-    ap (flat_map f) (filter-append p (below k) (k ∷ []))
-    ∙ flat_map_step f g p k (p k) refl (h k (omega arith)) (flat_map_same f g p k (λ n l. h n (omega arith)))
-    ∙ sym (ap (flat_map g) (filter-append p (below k) (k ∷ [])))
-
-none_pass : (p : ℕ → Bool) (k : ℕ) → ((n : ℕ) → n < k → p n ≡ false) → filter p (below k) ≡ []
-none_pass p zero h = refl
-none_pass p (suc k) h = filter-append p (below k) (k ∷ []) ∙ ap (λ b. filter p (below k) ++ cond b (k ∷ []) []) (h k (omega arith)) ∙ append-nil (filter p (below k)) ∙ none_pass p k (λ n l. h n (omega arith))
-
-all_reverse : (P : ℕ → Type 0) (xs : List ℕ) → All P xs → All P (reverse xs)
-all_reverse P [] h = h
-all_reverse P (x ∷ xs) h =
-    let Q : List ℕ → Type 0 = All P in
-    subst Q (sym (reverse-append (x ∷ []) xs)) (All-push P (reverse xs) x (all_reverse P xs (λ k d l. h (suc k) d (omega arith))) (h 0 x (omega arith)))
-
-all_front : (P : ℕ → Type 0) (xs ys : List ℕ) → All P (xs ++ ys) → All P xs
-all_front P xs ys h = λ k d l. subst P (get_or-append xs ys d k l) (h k d (omega (arith, length-append xs ys)))
+use Rattle.cw_tree.proofs.Members.{in_append, append_in, in_reverse, in_filter, in_below, filter_in, below_in}
+use Rattle.cw_tree.proofs.Rising.{Rises, rises_filter, rises_apart, below_rises}
+use Rattle.cw_tree.proofs.Ahead.{Apart}
 
 -- m is a child of n
 pub record IsChild (t : List Node) (n m : ℕ) : Type 0 where
@@ -61,76 +33,122 @@ child_in t n m c = filter_in (is_child t n) m (below (length t)) (below_in m (le
 pub children_rise : (t : List Node) (n : ℕ) → Rises (children t n)
 children_rise t n = rises_filter (is_child t n) (below (length t)) (below_rises (length t))
 
-module _ (t : List Node) where
+-- the children of each node, each once, in some order
+pub record OrdersChildren (t : List Node) (order : ℕ → List ℕ) : Type 0 where
+  pub all : (n m : ℕ) → In m (children t n) → In m (order n)
+  pub only : (n m : ℕ) → In m (order n) → In m (children t n)
+  pub once : (n : ℕ) → Apart (order n)
+
+-- by their numbers
+pub by_number : (t : List Node) → OrdersChildren t (children t)
+by_number t = record { all = λ n m i. i; only = λ n m i. i; once = λ n. rises_apart (children t n) (children_rise t n) }
+
+-- two functions that agree at each member of a list
+flat_same : (f g : ℕ → List ℕ) (xs : List ℕ) → ((x : ℕ) → In x xs → f x ≡ g x) → flat_map f xs ≡ flat_map g xs
+flat_same f g [] e = refl
+flat_same f g (x ∷ xs) e = ap (λ ys. ys ++ flat_map f xs) (e x (inl refl)) ∙ ap (λ ys. g x ++ ys) (flat_same f g xs (λ y i. e y (inr i)))
+
+none_in : (xs : List ℕ) → ((x : ℕ) → In x xs → ⊥) → xs ≡ []
+none_in [] h = refl
+none_in (x ∷ xs) h = absurd (h x (inl refl))
+
+-- ## By any order
+
+module _ (t : List Node) (order : ℕ → List ℕ) where
   -- the nodes from n down, to all levels
+  abbrev pub whole_by : ℕ → List ℕ
+  whole_by = walk_by order (length t)
+
+  -- what is still to be visited, from the nodes of a stack
+  abbrev pub to_come : List ℕ → List ℕ
+  to_come stack = flat_map whole_by (reverse stack)
+
+  pub record Walking (done stack : List ℕ) : Type 0 where
+    pub all : done ++ to_come stack ≡ whole_by 0
+    pub there : (n : ℕ) → In n stack → n < length t
+
+module _ (t : List Node) (r : IsRooted t) (order : ℕ → List ℕ) (o : OrdersChildren t order) where
+  pub child_of : (n m : ℕ) → In m (order n) → IsChild t n m
+  child_of n m i = child_is t n m (o.only n m i)
+
+  child_after : (n m : ℕ) → In m (order n) → n < m
+  child_after n m i = let c = child_of n m i in let low : parent_of t m < m = r m c.some c.there in omega (arith, c.parent)
+
+  none_ordered : (n : ℕ) → length t ≤ n → order n ≡ []
+  none_ordered n h = none_in (order n) (λ m i. let c = child_of n m i in let after : n < m = child_after n m i in omega (arith, c.there))
+
+  -- as many levels as there are numbers from n on are enough
+  walk_enough : (k j n : ℕ) → length t ≤ n + k → length t ≤ n + j → walk_by order k n ≡ walk_by order j n
+  walk_enough zero zero n h g = refl
+  walk_enough zero (suc j) n h g = sym (ap (λ ns. n ∷ flat_map (walk_by order j) ns) (none_ordered n (omega arith)))
+  walk_enough (suc k) zero n h g = ap (λ ns. n ∷ flat_map (walk_by order k) ns) (none_ordered n (omega arith))
+  walk_enough (suc k) (suc j) n h g =
+      ap (λ ns. n ∷ ns) (flat_same (walk_by order k) (walk_by order j) (order n) (λ m i. let after : n < m = child_after n m i in walk_enough k j m (omega arith) (omega arith)))
+
+  whole_from : (k : ℕ) → length t ≡ k → (n : ℕ) → walk_by order k n ≡ n ∷ flat_map (walk_by order k) (order n)
+  whole_from zero e n = sym (ap (λ ns. n ∷ flat_map (walk_by order zero) ns) (none_ordered n (omega arith)))
+  whole_from (suc k) e n =
+      ap (λ ns. n ∷ ns) (flat_same (walk_by order k) (walk_by order (suc k)) (order n) (λ m i. let after : n < m = child_after n m i in walk_enough k (suc k) m (omega arith) (omega arith)))
+
+  -- a walk is the node, and the walks from its children
+  pub walk_by_step : (n : ℕ) → whole_by t order n ≡ n ∷ flat_map (whole_by t order) (order n)
+  walk_by_step n = whole_from (length t) refl n
+
+  to_come_step : (rest : List ℕ) (n : ℕ) → to_come t order (rest ++ n ∷ []) ≡ n ∷ to_come t order (rest ++ reverse (order n))
+  to_come_step rest n =
+      ap (flat_map (whole_by t order)) (reverse-append rest (n ∷ []))
+      ∙ ap (λ ns. ns ++ to_come t order rest) (walk_by_step n)
+      ∙ ap (λ ns. n ∷ ns) (sym (flat_map-append (whole_by t order) (order n) (reverse rest)))
+      ∙ ap (λ ns. n ∷ flat_map (whole_by t order) (ns ++ reverse rest)) (sym (reverse-reverse (order n)))
+      ∙ ap (λ ns. n ∷ flat_map (whole_by t order) ns) (sym (reverse-append rest (reverse (order n))))
+
+  pub walk_begins : (some : 0 < length t) (stack : List ℕ) → stack ≡ 0 ∷ [] → Walking t order [] stack
+  walk_begins some stack e = record {
+    all = ap (to_come t order) e ∙ append-nil (whole_by t order 0);
+    there = λ n i. (let P : List ℕ → Type 0 = λ ns. In n ns in elim (subst P e i) [ inl q ↦ omega arith | inr z ↦ absurd z ]);
+  }
+
+  -- node n is taken from a stack, and its children are put there
+  module _ (done stack rest : List ℕ) (n : ℕ) (w : Walking t order done stack) (taken : stack ≡ rest ++ n ∷ []) where
+    was_there : (m : ℕ) → In m (rest ++ n ∷ []) → m < length t
+    was_there m i = let P : List ℕ → Type 0 = λ ns. In m ns in w.there m (subst P (sym taken) i)
+
+    pub taken_there : n < length t
+    taken_there = was_there n (append_in n rest (n ∷ []) (inr (inl refl)))
+
+    module _ (next : List ℕ) (put : next ≡ rest ++ reverse (order n)) where
+      here : to_come t order stack ≡ n ∷ to_come t order next
+      here = ap (to_come t order) taken ∙ to_come_step rest n ∙ ap (λ ns. n ∷ to_come t order ns) (sym put)
+
+      there_next : (m : ℕ) → In m next → m < length t
+      there_next m i =
+          let P : List ℕ → Type 0 = λ ns. In m ns in
+          elim (in_append m rest (reverse (order n)) (subst P put i)) [
+            | inl j ↦ was_there m (append_in m rest (n ∷ []) (inl j))
+            | inr j ↦ (child_of n m (in_reverse m (order n) j)).there
+          ]
+
+      pub walk_goes_on : (more : List ℕ) → more ≡ done ++ n ∷ [] → Walking t order more next
+      walk_goes_on more grown = record {
+        all = ap (λ ns. ns ++ to_come t order next) grown
+            ∙ append_assoc done (n ∷ []) (to_come t order next)
+            ∙ ap (λ ns. done ++ ns) (sym here)
+            ∙ w.all;
+        there = there_next;
+      }
+
+      pub walk_smaller : length (to_come t order next) < length (to_come t order stack)
+      walk_smaller = omega (arith, ap length here)
+
+-- ## By numbers
+
+module _ (t : List Node) where
   abbrev pub whole : ℕ → List ℕ
   whole = walk t (length t)
 
-  -- what is met from the nodes of a stack, the top one first
-  abbrev pub ahead : List ℕ → List ℕ
-  ahead stack = flat_map whole (reverse stack)
-
-  -- the nodes that were come to and those ahead are all
-  pub record Walking (order stack : List ℕ) : Type 0 where
-    pub all : order ++ ahead stack ≡ depth_first t
-    pub there : All (λ n. n < length t) stack
-
 module _ (t : List Node) (r : IsRooted t) where
-  child_after : (n m : ℕ) → m < length t → is_child t n m ≡ true → n < m
-  child_after n m h e =
-      let z = and_parts (nat_lt 0 m) (nat_eq (parent_of t m) n) e in
-      let same : parent_of t m ≡ n = eqb-true (parent_of t m) n z.1 in
-      let low : parent_of t m < m = r m (ltb-true 0 m z.0) h in
-      omega arith
-
   pub no_children : (n : ℕ) → length t ≤ n → children t n ≡ []
-  no_children n h = none_pass (is_child t n) (length t) (λ m l. false_from_ne_true (is_child t n m) (λ e. let after : n < m = child_after n m l e in omega arith))
+  no_children = none_ordered t r (children t) (by_number t)
 
-  -- as many levels as there are numbers from n on are enough
-  walk_enough : (k j n : ℕ) → length t ≤ n + k → length t ≤ n + j → walk t k n ≡ walk t j n
-  walk_enough zero zero n h g = refl
-  walk_enough zero (suc j) n h g = sym (ap (λ ns. n ∷ flat_map (walk t j) ns) (no_children n (omega arith)))
-  walk_enough (suc k) zero n h g = ap (λ ns. n ∷ flat_map (walk t k) ns) (no_children n (omega arith))
-  walk_enough (suc k) (suc j) n h g =
-      ap (λ ns. n ∷ ns) (flat_map_same (walk t k) (walk t j) (is_child t n) (length t) (λ m l e. let after : n < m = child_after n m l e in walk_enough k j m (omega arith) (omega arith)))
-
-  whole_from : (k : ℕ) → length t ≡ k → (n : ℕ) → walk t k n ≡ n ∷ flat_map (walk t k) (children t n)
-  whole_from zero e n = sym (ap (λ ns. n ∷ flat_map (walk t zero) ns) (no_children n (omega arith)))
-  whole_from (suc k) e n = ap (λ ns. n ∷ ns) (flat_map_same (walk t k) (walk t (suc k)) (is_child t n) (length t) (λ m l g. let after : n < m = child_after n m l g in walk_enough k (suc k) m (omega arith) (omega arith)))
-
-  -- a walk is the node, and the walks from its children
   pub walk_step : (n : ℕ) → whole t n ≡ n ∷ flat_map (whole t) (children t n)
-  walk_step n = whole_from (length t) refl n
-
-  ahead_step : (rest : List ℕ) (n : ℕ) → ahead t (rest ++ n ∷ []) ≡ n ∷ ahead t (rest ++ reverse (children t n))
-  ahead_step rest n =
-      ap (flat_map (whole t)) (reverse-append rest (n ∷ []))
-      ∙ ap (λ ns. ns ++ ahead t rest) (walk_step n)
-      ∙ ap (λ ns. n ∷ ns) (sym (flat_map-append (whole t) (children t n) (reverse rest)))
-      ∙ ap (λ ns. n ∷ flat_map (whole t) (ns ++ reverse rest)) (sym (reverse-reverse (children t n)))
-      ∙ ap (λ ns. n ∷ flat_map (whole t) ns) (sym (reverse-append rest (reverse (children t n))))
-
-  children_there : (n : ℕ) → All (λ m. m < length t) (reverse (children t n))
-  children_there n = all_reverse (λ m. m < length t) (children t n) (all_of (λ m. m < length t) (children t n) (λ m i. (child_is t n m i).there))
-
-  -- node n is taken from a stack, and its children are put there
-  module _ (order stack rest next : List ℕ) (n : ℕ) (w : Walking t order stack) (taken : stack ≡ rest ++ n ∷ []) (put : next ≡ rest ++ reverse (children t n)) where
-    here : ahead t stack ≡ n ∷ ahead t next
-    here = ap (ahead t) taken ∙ ahead_step rest n ∙ ap (λ ns. n ∷ ahead t ns) (sym put)
-
-    there_next : All (λ m. m < length t) next
-    there_next =
-        let P : List ℕ → Type 0 = All (λ m. m < length t) in
-        subst P (sym put) (All-append (λ m. m < length t) rest (reverse (children t n)) (all_front (λ m. m < length t) rest (n ∷ []) (subst P taken w.there)) (children_there n))
-
-    pub walk_goes_on : (more : List ℕ) → more ≡ order ++ n ∷ [] → Walking t more next
-    walk_goes_on more grown = record {
-      all = ap (λ ns. ns ++ ahead t next) grown
-          ∙ append_assoc order (n ∷ []) (ahead t next)
-          ∙ ap (λ ns. order ++ ns) (sym here)
-          ∙ w.all;
-      there = there_next;
-    }
-
-    pub walk_smaller : length (ahead t next) < length (ahead t stack)
-    walk_smaller = omega (arith, ap length here)
+  walk_step = walk_by_step t r (children t) (by_number t)

@@ -1,51 +1,10 @@
-ghost use Rattle.std.specs.Prelude.{◌≡◌, ◌++◌, ◌<◌, length, map, reverse, IfOk, OnOk};
+ghost use Rattle.std.specs.Prelude.{◌≡◌, ◌<◌, length, map, IfOk};
 ghost use Rattle.cw_tree.specs.InOrder.{in_order, node_in_order, renamed};
 ghost use Rattle.cw_tree.specs.Nodes.{all_nodes};
-ghost use Rattle.cw_tree.specs.Series.{children, depth_first};
-ghost use Rattle.cw_tree.specs.Links.{last_child, child_before};
+ghost use Rattle.cw_tree.specs.Series.{depth_first};
 
-use crate::{Node, Tree};
+use crate::{Family, Node, Tree};
 use cw_base::OutOfMemory;
-
-/// For each node its last child, and the last earlier child of its parent.
-#[derive(Drop)]
-struct Family {
-    last: Vec<Option<u32>>,
-    before: Vec<Option<u32>>,
-}
-
-impl Family {
-    fn of_tree(tree: &Tree) -> Result<Family, OutOfMemory>
-        ensures last { IfOk result (λ f. f.last.items ≡ map (last_child tree.now) (all_nodes tree.now)) }
-        ensures before { IfOk result (λ f. f.before.items ≡ map (child_before tree.now) (all_nodes tree.now)) }
-    {
-        let count = tree.nodes().len();
-        let alloc = *tree.nodes.allocator();
-        let mut last = vec![in alloc; None; count]?;
-        let mut before = vec![in alloc; None; count]?;
-        for n in 1..count as u32 {
-            let parent = tree.parent(n) as usize;
-            before[n as usize] = last[parent];
-            last[parent] = Some(n);
-        }
-        Ok(Family { last, before })
-    }
-
-    // Pushes a node's children on a stack, the first one last.
-    fn push_children(&self, tree: &Tree, n: u32, stack: &mut Vec<u32>) -> Result<(), OutOfMemory>
-        requires there { n < length tree.now }
-        requires last { self.now.last.items ≡ map (last_child tree.now) (all_nodes tree.now) }
-        requires before { self.now.before.items ≡ map (child_before tree.now) (all_nodes tree.now) }
-        ensures { OnOk result (stack.new.items ≡ stack.old.items ++ reverse (children tree.now n)) }
-    {
-        let mut next = self.last[n as usize];
-        while let Some(child) = next {
-            stack.push(child)?;
-            next = self.before[child as usize];
-        }
-        Ok(())
-    }
-}
 
 // Each call takes memory and steps for each node of the tree, however deep it is.
 impl Tree {
@@ -62,7 +21,7 @@ impl Tree {
         let mut stack = Vec::new(alloc);
         stack.push(0)?;
         while let Some(n) = stack.pop() {
-            family.push_children(self, n, &mut stack)?;
+            family.push_children(n, &mut stack)?;
             order.push(n)?;
         }
         Ok(order)

@@ -2,7 +2,7 @@ use Rattle.std.proofs.Common.{◌≡◌, ◌∙◌, false, ap, sym, arith, get_o
 use Rattle.cw_tree.specs.Nodes.{is_strand}
 use Rattle.cw_tree.specs.Series.{strand_of}
 use Rattle.cw_tree.proofs.Lists.{length_map_below, get_map_below}
-use Rattle.cw_tree.proofs.Walks.Strands.{strand_of_other, strand_of_root, strand_of_strand}
+use Rattle.cw_tree.proofs.Walks.Strands.{strand_of_other}
 use Rattle.cw_tree.proofs.tree.Tree.strand_from.Goals as goal
 
 pub bounds-before-parent : goal.bounds-before-parent

@@ -1,6 +1,6 @@
-use Rattle.std.proofs.Common.{arith, ap, ◌<◌, length, rules}
+use Rattle.std.proofs.Common.{arith, ap, ◌<◌, ◌≤◌, length, rules}
 use Rattle.cw_tree.proofs.Walks.Children.{met_start, met_step, met_end_last, met_end_before}
-use Rattle.cw_tree.proofs.tree.order.Family.of_tree.Goals as goal
+use Rattle.cw_tree.proofs.tree.family.Family.of_tree.Goals as goal
 
 pub loop-n-init : goal.loop-n-init
 loop-n-init c =
@@ -13,9 +13,11 @@ loop-n-preserved c =
     met_step c.args.tree.now c.loop-n.n c.loop-n.last.items c.loop-n.before.items c.loop-n.invariant there c.parent-parent.result (c.parent-parent.ensures.low c.loop-n.invariant.some) c.parent-parent.ensures.parent
     c.index.result.now c.index.ensures
 
-pub returns-clause-last : goal.returns-clause-last
-returns-clause-last c =
-    met_end_last c.args.tree.now c.loop-n.n c.loop-n.last.items c.loop-n.before.items c.loop-n.invariant (omega (arith, ap length c.nodes-count.ensures.nodes)) (λ h. omega (arith, ap length c.nodes-count.ensures.nodes))
-
-pub returns-clause-before : goal.returns-clause-before
-returns-clause-before c = met_end_before c.args.tree.now c.loop-n.n c.loop-n.last.items c.loop-n.before.items c.loop-n.invariant (omega (arith, ap length c.nodes-count.ensures.nodes))
+pub invariant_of-result : goal.invariant_of-result
+invariant_of-result c =
+    let t = c.args.tree.now in
+    let all : length t ≤ c.loop-n.n = omega (arith, ap length c.nodes-count.ensures.nodes) in
+    record {
+      last = met_end_last t c.loop-n.n c.loop-n.last.items c.loop-n.before.items c.loop-n.invariant all (λ h. omega (arith, ap length c.nodes-count.ensures.nodes));
+      before = met_end_before t c.loop-n.n c.loop-n.last.items c.loop-n.before.items c.loop-n.invariant all;
+    }
