@@ -7,7 +7,7 @@ use Rattle.cw_order.specs.declared.ring.TheConstants.{END}
 use Rattle.cw_order.specs.Links.{walk, first_or, AreLinked, AreApart, Lacks, Rise}
 use Rattle.cw_order.specs.Ring.{IsRing, path, elements_of}
 use Rattle.cw_order.specs.OrderList.{ArePlaces}
-use Rattle.cw_order.proofs.Apart.{has_or_lacks, lacks_whole, apart_parts, apart_in}
+use Rattle.cw_order.proofs.Apart.{has_or_lacks, lacks_whole, apart_in}
 use Rattle.cw_order.proofs.Keeping.{path_within}
 use Rattle.cw_order.proofs.Spreading.{read_all}
 

@@ -7,13 +7,17 @@ use Rattle.std.specs.Vec.{vec_len}
 use Rattle.std.proofs.lemmas.List.Elements.{All-from_recursion, All-contains}
 use Rattle.cw_order.specs.declared.list.OrderList.TheInside.{Inside}
 use Rattle.cw_order.specs.declared.ring.Ring.{Ring}
-use Rattle.cw_order.specs.Order.{Order}
+use Rattle.cw_order.specs.Order.{Order, AreLabels, position}
+use Rattle.cw_order.specs.declared.ring.TheConstants.{END}
 use Rattle.cw_order.specs.OrderList.{order_of_list, IsListInMemory}
 use Rattle.cw_order.specs.Links.{walk, AreLinked, AreApart}
 use Rattle.cw_order.specs.Ring.{IsRing, path, elements_of}
 use Rattle.cw_order.proofs.Apart.{lacks-contains, lacks_parts, apart_out, distinct_from_apart}
 use Rattle.cw_order.proofs.Linking.{walk-linked, length-walk}
+use Rattle.cw_order.proofs.Placing.{labels-positions, get_or-read_all, length-read_all, stands_at}
+use Rattle.cw_order.proofs.Rising.{rise_first}
 use Rattle.cw_order.proofs.Rooms.{linked_within}
+use Rattle.cw_order.proofs.Spreading.{read_all}
 
 -- each element has its place in the arrays
 pub path_within : (r : Ring) (xs : List ℕ) (x : ℕ) → IsRing r xs → 0 < vec_len r.next → Contains (path xs) x → x < vec_len r.next
@@ -40,6 +44,22 @@ kept_distinct a kept = distinct_from_apart (elements_of a.ring a.count) kept.rin
 
 pub kept_length : (a : Inside) → length (elements_of a.ring a.count) ≡ a.count
 kept_length a = length-walk a.ring.next.items (get_or a.ring.next.items 0 0) a.count
+
+-- the head has the least label, and 0 is below those of the elements
+pub kept_labels : (a : Inside) → IsListInMemory a → AreLabels (order_of_list a)
+kept_labels a kept = record { low = low; order = λ x y hx hy. labels-positions labels xs END x y kept.ring.rising.1 hx hy } where
+  xs : List ℕ
+  xs = elements_of a.ring a.count
+
+  labels : List ℕ
+  labels = a.ring.labels.items
+
+  low : (x : ℕ) → Contains xs x → 0 < get_or labels x 0
+  low x has =
+      let s = stands_at xs x has in
+      let first = rise_first 1 (read_all labels xs) END (position xs x) kept.ring.rising.1 (omega (arith, s.within, length-read_all labels xs)) in
+      let here = get_or-read_all labels xs (position xs x) s.within in
+      omega (arith, kept.ring.rising.0, first, here, ap (λ y. get_or labels y 0) s.there)
 
 -- the first free place is in no use
 pub kept_new : (a : Inside) → IsListInMemory a → (a.count ≡ a.made → ⊥) → Contains (elements_of a.ring a.count) a.free → ⊥

@@ -1,9 +1,10 @@
 -- Labels that are spread over a part of a list.
-use Rattle.std.proofs.Common.{ℕ, suc, ◌+◌, ◌*◌, ◌<◌, ◌≤◌, ◌≡◌, List, [], ◌∷◌, ◌++◌, length, map, get_or, set, refl, sym, ap, ◌∙◌, subst, arith}
-use Rattle.std.specs.List.{AllByRecursion}
+use Rattle.std.proofs.Common.{ℕ, suc, ◌+◌, ◌*◌, ◌<◌, ◌≤◌, ◌≡◌, List, [], ◌∷◌, ◌++◌, length, map, get_or, set, refl, sym, ap, ◌∙◌, subst, arith, inl, inr}
+use Rattle.std.specs.Prelude.{◌⊎◌}
+use Rattle.std.specs.List.{AllByRecursion, Contains}
 use Rattle.std.proofs.lemmas.List.{map-append, get_or-set_other, get_or-set_same, length-set}
 use Rattle.cw_order.specs.Links.{walk, first_or, Rise, Lacks, AreApart, spread_over}
-use Rattle.cw_order.proofs.Apart.{AreDisjoint, apart_parts, apart_across, disjoint_turned, disjoint_parts}
+use Rattle.cw_order.proofs.Apart.{AreDisjoint, has_or_lacks, apart_parts, apart_across, disjoint_turned, disjoint_parts}
 use Rattle.cw_order.proofs.Rising.{rise_whole, rise_less}
 
 -- what the numbers of a list have in an array
@@ -21,10 +22,14 @@ pub spread-beside : (run xs : List ℕ) (base gap : ℕ) (labels : List ℕ) →
 spread-beside [] xs base gap labels d = refl
 spread-beside (x ∷ run) xs base gap labels d = spread-beside run xs (base + gap) gap (set labels x base) d.1 ∙ read_all-set labels xs x base d.0
 
-spread-lacks : (run : List ℕ) (y base gap : ℕ) (labels : List ℕ) → Lacks run y → get_or (spread_over run base gap labels) y 0 ≡ get_or labels y 0
+pub spread-lacks : (run : List ℕ) (y base gap : ℕ) (labels : List ℕ) → Lacks run y → get_or (spread_over run base gap labels) y 0 ≡ get_or labels y 0
 spread-lacks [] y base gap labels l = refl
 spread-lacks (x ∷ run) y base gap labels l =
     spread-lacks run y (base + gap) gap (set labels x base) l.1 ∙ get_or-set_other labels x y base 0 (λ e. l.0 (sym e))
+
+-- a place has its label as before, if it is not in the run
+pub spread_keeps : (run : List ℕ) (base gap : ℕ) (labels : List ℕ) (x : ℕ) → Contains run x ⊎ (get_or (spread_over run base gap labels) x 0 ≡ get_or labels x 0)
+spread_keeps run base gap labels x = elim (has_or_lacks run x) [ inl h ↦ inl h | inr l ↦ inr (spread-lacks run x base gap labels l) ]
 
 pub spread-first : (x : ℕ) (run : List ℕ) (base gap : ℕ) (labels : List ℕ) → Lacks run x → x < length labels → get_or (spread_over (x ∷ run) base gap labels) x 0 ≡ base
 spread-first x run base gap labels l h = spread-lacks run x (base + gap) gap (set labels x base) l ∙ get_or-set_same labels x base 0 h

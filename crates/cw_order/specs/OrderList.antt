@@ -7,7 +7,7 @@ use Rattle.cw_order.specs.Links.{AreApart, walk}
 use Rattle.cw_order.specs.Ring.{IsRing, elements_of, path}
 
 abbrev pub order_of_list : Inside → Order
-order_of_list a = record { elements = elements_of a.ring a.count; room = a.ring.room }
+order_of_list a = record { elements = elements_of a.ring a.count; room = a.ring.room; labels = a.ring.labels.items; renumbered = a.ring.renumbered.items }
 
 -- the places that are not in use, of the `made` ones
 abbrev pub free_from : Ring → (made count free : ℕ) → List ℕ

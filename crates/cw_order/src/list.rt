@@ -1,9 +1,9 @@
-ghost use Rattle.std.specs.Prelude.{◌≡◌, ◌+◌, ◌<◌, ◌≤◌, ◌↔◌, [], IsTrue, IsErr, IfOk, OnErr, Contains, length, nat_eq};
+ghost use Rattle.std.specs.Prelude.{◌≡◌, ◌+◌, ◌<◌, ◌≤◌, ◌↔◌, ◌⊎◌, ℕ, [], IsTrue, IsErr, IfOk, OnOk, OnErr, Contains, length, nat_eq, slice_index};
 ghost use Rattle.std.specs.List.{IsDistinct};
 ghost use Rattle.std.specs.Option.{ForSome};
-ghost use Rattle.cw_order.specs.Order.{placed_after, without, position};
+ghost use Rattle.cw_order.specs.Order.{placed_after, without, position, AreLabels, KeepsLabels};
 ghost use Rattle.cw_order.specs.OrderList.{ArePlaces};
-ghost use Rattle.cw_order.specs.Ring.{elements_of};
+ghost use Rattle.cw_order.specs.Ring.{elements_of, label_of};
 
 use crate::Steps;
 use crate::ring::{HEAD, Ring};
@@ -41,6 +41,7 @@ fn free_place(ring: &mut Ring, made: u32, count: u32, free: u32) -> Free
     ensures some { count < result.made }
     ensures elements { elements_of ring.new count ≡ elements_of ring.old count }
     ensures room { ring.new.room ≡ ring.old.room }
+    ensures labels { (x : ℕ) → label_of ring.new x ≡ label_of ring.old x }
 {
     if count < made {
         return Free { made, place: free };
@@ -66,6 +67,7 @@ impl OrderList {
     pub fn with_room(alloc: Global, n: u32) -> Result<OrderList, OutOfMemory>
         ensures empty { IfOk result (λ l. l.elements ≡ []) }
         ensures room { IfOk result (λ l. l.room ≡ n) }
+        ensures labels { IfOk result AreLabels }
     {
         Ok(OrderList {
             ring: Ring::with_room(alloc, n)?,
@@ -91,6 +93,8 @@ impl OrderList {
         ensures distinct { IsDistinct nat_eq self.new.elements }
         ensures few { length self.new.elements ≤ self.new.room }
         ensures room { self.new.room ≡ self.old.room }
+        ensures labels { AreLabels self.new }
+        ensures kept { OnOk result (KeepsLabels self.old self.new) }
         ensures full { IsErr result ↔ (length self.old.elements ≡ self.old.room) }
         ensures err { OnErr result (self.new ≡ self.old) }
     {
@@ -111,6 +115,9 @@ impl OrderList {
         ensures removed { self.new.elements ≡ without e self.old.elements }
         ensures distinct { IsDistinct nat_eq self.new.elements }
         ensures room { self.new.room ≡ self.old.room }
+        ensures labels { AreLabels self.new }
+        ensures same { self.new.labels ≡ self.old.labels }
+        ensures renumbered { self.new.renumbered ≡ self.old.renumbered }
     {
         self.ring.unlink(e, self.free);
         self.free = e;
@@ -125,5 +132,20 @@ impl OrderList {
         ensures cost { steps.new ≡ steps.old + 1 }
     {
         self.ring.is_before(a, b, steps)
+    }
+
+    /// Returns the label of `e`, which another insertion may change.
+    pub fn label(&self, e: u32) -> u64
+        requires { Contains self.now.elements e }
+        ensures { result ≡ slice_index self.now.labels e }
+    {
+        self.ring.label(e)
+    }
+
+    /// Returns the elements that the last insertion gave new labels. 0 may be among them, which is no element.
+    pub fn renumbered(&self) -> &[u32]
+        ensures { result.now ≡ self.now.renumbered }
+    {
+        self.ring.renumbered()
     }
 }

@@ -19,13 +19,14 @@ struct Run {
 }
 
 /// The head and the elements of a list, as a ring of links with labels that rise from the head on. Places outside the ring are
-/// linked by `next` alone. Places are made as they are needed, so memory that no element uses is not touched.
+/// linked by `next` alone. `renumbered` has the places that the last call for a label gave new labels. Places are made as they are needed, so memory that no element uses is not touched.
 #[derive(Drop)]
 pub(crate) struct Ring {
     room: u32,
     next: Vec<u32>,
     previous: Vec<u32>,
     labels: Vec<u64>,
+    renumbered: Vec<u32>,
     ghost same_places: { vec_len previous ≡ vec_len next },
     ghost labelled: { vec_len labels ≡ vec_len next },
     ghost leads_on: { All (λ at. at < vec_len next) next.items },
@@ -33,10 +34,11 @@ pub(crate) struct Ring {
     ghost next_room: { room < vec_capacity next },
     ghost previous_room: { room < vec_capacity previous },
     ghost labels_room: { room < vec_capacity labels },
+    ghost renumbered_room: { room < vec_capacity renumbered },
 }
 
 impl Ring {
-    ghost use Rattle.std.specs.Prelude.{◌≡◌, ◌≤◌, ◌<◌, ◌+◌, ◌-◌, ◌*◌, ◌^◌, ◌↔◌, ℕ, List, [], IsTrue, vec_len, slice_index, slice_set, IfOk, IfSome};
+    ghost use Rattle.std.specs.Prelude.{◌≡◌, ◌≤◌, ◌<◌, ◌+◌, ◌++◌, ◌-◌, ◌*◌, ◌^◌, ◌↔◌, ◌⊎◌, ℕ, List, [], IsTrue, vec_len, slice_index, slice_set, IfOk, IfSome};
     ghost use Rattle.std.specs.List.{Contains};
     ghost use Rattle.cw_order.specs.Links.{walk, spread_over, next_with, previous_with, next_without, previous_without};
     ghost use Rattle.cw_order.specs.Ring.{IsRing, IsRun, label_of, above_of, path, elements_of};
@@ -53,6 +55,7 @@ impl Ring {
             next: Vec::with_capacity(alloc, places)?,
             previous: Vec::with_capacity(alloc, places)?,
             labels: Vec::with_capacity(alloc, places)?,
+            renumbered: Vec::with_capacity(alloc, places)?,
         };
         ring.grow();
         Ok(ring)
@@ -72,6 +75,7 @@ impl Ring {
         ensures next { self.new.next.items ≡ self.old.next.items ++ 0 ∷ [] }
         ensures previous { self.new.previous.items ≡ self.old.previous.items ++ 0 ∷ [] }
         ensures labels { self.new.labels.items ≡ self.old.labels.items ++ 0 ∷ [] }
+        ensures renumbered { self.new.renumbered.items ≡ self.old.renumbered.items }
         ensures room { self.new.room ≡ self.old.room }
     {
         // a hint to the prover: there are fewer than 2^32 places
@@ -83,8 +87,8 @@ impl Ring {
         place
     }
 
-    /// Returns whether the label of `a` is below that of `b`. Apart from `with_room` and `room` this is the only call without
-    /// `&mut` that other files have, so no code there learns the order without a tick.
+    /// Returns whether the label of `a` is below that of `b`. Beside this call only `label` tells other files of the order, so a file
+    /// that does not ask for labels learns it by ticks alone.
     pub(crate) fn is_before<L: Ledger>(&self, a: u32, b: u32, steps: &mut Steps<L>) -> bool
         requires first { a < vec_len self.now.next }
         requires second { b < vec_len self.now.next }
@@ -111,11 +115,18 @@ impl Ring {
         self.previous[at as usize]
     }
 
-    fn label(&self, at: u32) -> u64
+    pub(crate) fn label(&self, at: u32) -> u64
         requires { at < vec_len self.now.next }
         ensures { result ≡ label_of self.now at }
     {
         self.labels[at as usize]
+    }
+
+    /// Returns the places that the last call for a label gave new labels.
+    pub(crate) fn renumbered(&self) -> &[u32]
+        ensures { result.now ≡ self.now.renumbered.items }
+    {
+        self.renumbered.as_slice()
     }
 
     /// Returns how far the next label, or `END`, is above the label of `at`.
@@ -135,6 +146,7 @@ impl Ring {
     pub(crate) fn label_after(&mut self, at: u32, count: u32) -> u64
         requires place { at < vec_len self.old.next }
         requires few { count < 2 ^ 32 - 1 }
+        requires fits { count ≤ self.old.room }
         requires ring { IsRing self.old (elements_of self.old count) }
         requires there { Contains (path (elements_of self.old count)) at }
         ensures next { self.new.next.items ≡ self.old.next.items }
@@ -142,8 +154,11 @@ impl Ring {
         ensures ring { IsRing self.new (elements_of self.old count) }
         ensures above { label_of self.new at < result }
         ensures below { result < above_of self.new at }
+        ensures kept { (x : ℕ) → Contains self.new.renumbered.items x
+            ⊎ (label_of self.new x ≡ label_of self.old x) }
         ensures room { self.new.room ≡ self.old.room }
     {
+        self.renumbered.clear();
         if self.gap_after(at) < 2 {
             self.make_room(at, count);
         }
@@ -160,6 +175,7 @@ impl Ring {
         ensures previous { self.new.previous.items
             ≡ previous_with self.old.next.items self.old.previous.items at element }
         ensures labels { self.new.labels.items ≡ slice_set self.old.labels.items element label }
+        ensures renumbered { self.new.renumbered.items ≡ self.old.renumbered.items }
         ensures room { self.new.room ≡ self.old.room }
     {
         let was = self.next(element);
@@ -181,6 +197,7 @@ impl Ring {
         ensures previous { self.new.previous.items
             ≡ previous_without self.old.next.items self.old.previous.items element }
         ensures labels { self.new.labels.items ≡ self.old.labels.items }
+        ensures renumbered { self.new.renumbered.items ≡ self.old.renumbered.items }
         ensures room { self.new.room ≡ self.old.room }
     {
         let before = self.previous(element);
@@ -200,12 +217,16 @@ impl Ring {
     fn make_room(&mut self, at: u32, count: u32)
         requires place { at < vec_len self.old.next }
         requires few { count < 2 ^ 32 - 1 }
+        requires fits { count ≤ self.old.room }
         requires ring { IsRing self.old (elements_of self.old count) }
         requires there { Contains (path (elements_of self.old count)) at }
+        requires none { self.old.renumbered.items ≡ [] }
         ensures next { self.new.next.items ≡ self.old.next.items }
         ensures previous { self.new.previous.items ≡ self.old.previous.items }
         ensures ring { IsRing self.new (elements_of self.old count) }
         ensures room { label_of self.new at + 2 ≤ above_of self.new at }
+        ensures kept { (x : ℕ) → Contains self.new.renumbered.items x
+            ⊎ (label_of self.new x ≡ label_of self.old x) }
         ensures places { self.new.room ≡ self.old.room }
     {
         for level in 2..32u32 {
@@ -256,20 +277,24 @@ impl Ring {
         Some(run)
     }
 
-    /// Gives the labels `base`, `base + gap` and so on to `count` consecutive elements from `first` on.
+    /// Gives the labels `base`, `base + gap` and so on to `count` consecutive elements from `first` on, and lists the elements.
     fn spread(&mut self, first: u32, count: u32, base: u64, gap: u64)
         requires place { first < vec_len self.old.next }
         requires fits { base + count * gap < 2 ^ 64 }
+        requires listed { vec_len self.old.renumbered + count ≤ self.old.room + 1 }
         ensures next { self.new.next.items ≡ self.old.next.items }
         ensures previous { self.new.previous.items ≡ self.old.previous.items }
         ensures labels { self.new.labels.items
             ≡ spread_over (walk self.old.next.items first count) base gap self.old.labels.items }
+        ensures renumbered { self.new.renumbered.items
+            ≡ self.old.renumbered.items ++ walk self.old.next.items first count }
         ensures room { self.new.room ≡ self.old.room }
     {
         let mut at = first;
         let mut label = base;
         for _done in 0..count {
             self.labels[at as usize] = label;
+            put(&mut self.renumbered, at);
             at = self.next(at);
             label += gap;
         }

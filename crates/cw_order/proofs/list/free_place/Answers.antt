@@ -1,5 +1,5 @@
-use Rattle.std.proofs.Common.{arith}
-use Rattle.cw_order.proofs.Growing.{elements_grown, places_grown}
+use Rattle.std.proofs.Common.{ap, ◌∙◌, arith, get_or}
+use Rattle.cw_order.proofs.Growing.{elements_grown, get_or-more, places_grown}
 use Rattle.cw_order.proofs.list.free_place.Goals as goal
 
 pub returns-clause-kept : goal.returns-clause-kept
@@ -11,3 +11,6 @@ pub returns-clause-elements : goal.returns-clause-elements
 returns-clause-elements c =
     let grown = c.grow-place.ensures in
     elements_grown c.args.ring.now c.grow-place.new.self grown.next grown.previous grown.labels c.args.count
+
+pub returns-clause-labels : goal.returns-clause-labels
+returns-clause-labels c = λ x. ap (λ ls. get_or ls x 0) c.grow-place.ensures.labels ∙ get_or-more c.args.ring.now.labels.items x

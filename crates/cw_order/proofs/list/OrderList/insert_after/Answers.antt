@@ -1,15 +1,15 @@
-use Rattle.std.proofs.Common.{◌≡◌, ◌≢◌, ◌+◌, ◌<◌, List, ℕ, Option, length, nat_eq, subst, sym, ap, ◌∙◌, refl, arith}
+use Rattle.std.proofs.Common.{◌≡◌, ◌≢◌, ◌+◌, ◌<◌, List, ℕ, Option, length, nat_eq, subst, sym, ap, ◌∙◌, refl, arith, get_or, inl, inr}
 use Rattle.std.specs.List.{Contains, IsDistinct}
 use Rattle.std.specs.Option.{ForSome, unwrap_or}
 use Rattle.std.specs.Vec.{vec_len}
 use Rattle.cw_order.specs.declared.list.OrderList.TheInside.{Inside}
 use Rattle.cw_order.specs.declared.list.Free.{Free}
 use Rattle.cw_order.specs.declared.ring.Ring.{Ring}
-use Rattle.cw_order.specs.Order.{placed_after}
-use Rattle.cw_order.specs.OrderList.{IsListInMemory}
+use Rattle.std.proofs.lemmas.List.{get_or-set_other}
+use Rattle.cw_order.specs.Order.{placed_after, AreLabels}
 use Rattle.cw_order.specs.Ring.{elements_of, path}
 use Rattle.cw_order.proofs.Inserting.{HasInserted, inserted}
-use Rattle.cw_order.proofs.Keeping.{kept_below, kept_distinct, kept_length, kept_new, place_of, path_within}
+use Rattle.cw_order.proofs.Keeping.{kept_below, kept_distinct, kept_labels, kept_length, kept_new, place_of, path_within}
 use Rattle.cw_order.proofs.Members.{placed_new}
 use Rattle.cw_order.proofs.list.OrderList.insert_after.Goals as goal
 
@@ -32,6 +32,9 @@ pub overflow_add-self : goal.overflow_add-self
 overflow_add-self c =
     let below = kept_below c.self.inside c.args.self.now c.self.view_is c.self.invariant c.if-is_full.ensures.1 in
     record { fits = omega (arith, below) }
+
+pub label_after-label-requires-clause-fits : goal.label_after-label-requires-clause-fits
+label_after-label-requires-clause-fits c = omega (arith, c.free_place-next.ensures.kept.few, c.free_place-next.ensures.kept.within)
 
 -- the elements that the new one is placed among
 is_place : (at : Option ℕ) (place : ℕ) (xs ys : List ℕ) → place ≡ unwrap_or at 0 → ys ≡ xs → ForSome at (Contains xs) → Contains (path ys) place
@@ -110,6 +113,22 @@ pub returns-clause-few : goal.returns-clause-few
 returns-clause-few c =
     let new = kept_length (record { ring = c.link_after-self-inside.new.self; made = c.free_place-next.result.made; count = c.self.inside.count + 1; free = c.link_after-self-inside.result }) in
     omega (arith, new, (is_inserted c).kept.few, (is_inserted c).kept.within)
+
+pub returns-then-is_full-clause-labels : goal.returns-then-is_full-clause-labels
+returns-then-is_full-clause-labels c = subst AreLabels c.self.view_is (kept_labels c.self.inside c.self.invariant)
+
+pub returns-clause-labels : goal.returns-clause-labels
+returns-clause-labels c = kept_labels _ (is_inserted c).kept
+
+pub returns-clause-kept : goal.returns-clause-kept
+returns-clause-kept c = λ a has.
+    (let e = c.free_place-next.result.place in
+    let other : a ≢ e = λ q. returns-clause-new c (subst (Contains c.args.self.now.elements) q has) in
+    elim (c.label_after-label.ensures.kept a) [
+      | inl h ↦ inl (subst (λ xs. Contains xs a) (sym c.link_after-self-inside.ensures.renumbered) h)
+      | inr same ↦ inr (ap (λ ls. get_or ls a 0) c.link_after-self-inside.ensures.labels
+          ∙ (get_or-set_other c.label_after-label.new.self.labels.items e a c.label_after-label.result 0 other ∙ (same ∙ (c.free_place-next.ensures.labels a ∙ ap (λ o. get_or o.labels a 0) c.self.view_is))))
+    ])
 
 pub returns-clause-full : goal.returns-clause-full
 returns-clause-full c = (λ e. absurd cc, c.if-is_full.ensures.1)

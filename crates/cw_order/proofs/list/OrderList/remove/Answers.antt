@@ -2,7 +2,7 @@ use Rattle.std.proofs.Common.{◌-◌, subst, sym, ap, ◌∙◌, refl, arith}
 use Rattle.std.specs.List.{Contains}
 use Rattle.cw_order.specs.Order.{without}
 use Rattle.cw_order.specs.Ring.{elements_of}
-use Rattle.cw_order.proofs.Keeping.{after_head, kept_distinct, path_within}
+use Rattle.cw_order.proofs.Keeping.{after_head, kept_distinct, kept_labels, path_within}
 use Rattle.cw_order.proofs.Removing.{HasRemoved, removed}
 use Rattle.cw_order.proofs.list.OrderList.remove.Goals as goal
 
@@ -27,3 +27,6 @@ returns-clause-removed c = (is_removed c).elements ∙ ap (λ o. without c.args.
 
 pub returns-clause-distinct : goal.returns-clause-distinct
 returns-clause-distinct c = kept_distinct _ (is_removed c).kept
+
+pub returns-clause-labels : goal.returns-clause-labels
+returns-clause-labels c = kept_labels _ (is_removed c).kept

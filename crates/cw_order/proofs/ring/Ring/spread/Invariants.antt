@@ -1,4 +1,4 @@
-use Rattle.std.proofs.Common.{◌≡◌, ◌<◌, ◌+◌, ◌-◌, ◌*◌, vec_len}
+use Rattle.std.proofs.Common.{◌≡◌, ◌<◌, ◌+◌, ◌-◌, ◌*◌, ◌++◌, vec_len}
 use Rattle.cw_order.specs.Links.{walk, spread_over}
 use Rattle.cw_order.proofs.ring.Ring.spread.Given as goal
 
@@ -11,4 +11,6 @@ invariant-loop-done l = record {
   next : l.self.next.items ≡ l.fn.self.next.items;
   previous : l.self.previous.items ≡ l.fn.self.previous.items;
   room : l.self.room ≡ l.fn.self.room;
+  listed : l.self.renumbered.items ++ walk l.self.next.items l.at (l.count - l._done) ≡ l.fn.self.renumbered.items ++ walk l.self.next.items l.first l.count;
+  many : vec_len l.self.renumbered ≡ vec_len l.fn.self.renumbered + l._done;
 }
