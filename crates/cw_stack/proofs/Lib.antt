@@ -1,4 +1,5 @@
 pub mod Rising
 pub mod Keeping
 pub mod Rolling
+pub mod Searching
 pub mod WorkedEntries

@@ -1,9 +1,9 @@
 -- What a roll leaves and takes: by stamps, and in a tree.
 use Rattle.std.proofs.Common.{◌≡◌, ℕ, suc, ◌+◌, ◌-◌, ◌<◌, ◌≤◌, ℤ, List, [], ◌∷◌, ◌++◌, length, map, take, drop, get_or, refl, ap, sym, ◌∙◌, arith, Bool, true, cond, Some, inl, inr, subst, nat_lt, length-append}
-use Rattle.std.specs.Prelude.{not, nat_eq, filter, find, Contains}
+use Rattle.std.specs.Prelude.{not, filter, find, Contains}
 use Rattle.std.specs.List.{prefix_len}
 use Rattle.std.specs.List.Sorted.{IsStrictlyIncreasing}
-use Rattle.std.proofs.lemmas.Bool.{cases_lt, cases_Bool, lt-ltb, le-ltb, eqb-true, eq-eqb}
+use Rattle.std.proofs.lemmas.Bool.{cases_lt, cases_Bool, lt-ltb, le-ltb}
 use Rattle.std.proofs.lemmas.List.{length-map, length-take-le, drop_at, get_or-map, get_or_default}
 use Rattle.std.proofs.lemmas.Option.{same_Some}
 use Rattle.cw_tree.specs.declared.node.Node.{Node}
@@ -150,41 +150,6 @@ goes_down es s k d h less below i there e =
     let le : i ≤ k = below i there e in
     let here = stamp_at es k d h in
     elim (cases_lt i k) [ inl low ↦ omega arith | inr ge ↦ (let same : get_or (stamps es) i 0 ≡ get_or (stamps es) k 0 = ap (λ j. get_or (stamps es) j 0) (let q : i ≡ k = omega arith in q) in absurd (omega arith)) ]
-
--- nor is it right before place k where that entry's stamp is greater
-pub not_before : (es : List Entry) (s k : ℕ) (d : Entry) → 0 < k → k ≤ length es → s < (get_or es (k - 1) d).mark.stamp
-    → ((i : ℕ) → i < length es → get_or (stamps es) i 0 ≡ s → i < k) → (i : ℕ) → i < length es → get_or (stamps es) i 0 ≡ s → i < k - 1
-not_before es s k d some le less below i there e =
-    let low : i < k = below i there e in
-    let on : i ≤ k - 1 - 1 = goes_down es s (k - 1) d (omega arith) less (λ j h q. let l : j < k = below j h q in omega arith) i there e in
-    let here = stamp_at es (k - 1) d (omega arith) in
-    elim (cases_lt i (k - 1)) [ inl l ↦ l | inr ge ↦ (let same : get_or (stamps es) i 0 ≡ get_or (stamps es) (k - 1) 0 = ap (λ j. get_or (stamps es) j 0) (let q : i ≡ k - 1 = omega arith in q) in absurd (omega arith)) ]
-
--- a walk down from the newest that stops right behind an entry tells by its stamp whether there is one
-pub stops_where : (es : List Entry) (s k : ℕ) (d : Entry) → IsStrictlyIncreasing (stamps es) → 0 < k → k ≤ length es → (get_or es (k - 1) d).mark.stamp ≤ s
-    → ((i : ℕ) → i < length es → get_or (stamps es) i 0 ≡ s → i < k) → (nat_eq (get_or es (k - 1) d).mark.stamp s ≡ true → Contains (stamps es) s) × (Contains (stamps es) s → nat_eq (get_or es (k - 1) d).mark.stamp s ≡ true)
-stops_where es s k d r some le less below = (there, is) where
-  here : get_or (stamps es) (k - 1) 0 ≡ (get_or es (k - 1) d).mark.stamp
-  here = stamp_at es (k - 1) d (omega arith)
-
-  there : nat_eq (get_or es (k - 1) d).mark.stamp s ≡ true → Contains (stamps es) s
-  there e =
-      let len : length (stamps es) ≡ length es = length-map es (λ x. x.mark.stamp) in
-      let low : k - 1 < length (stamps es) = omega arith in
-      (k - 1, low, sym (get_or_default (stamps es) (k - 1) 0 s low) ∙ here ∙ eqb-true (get_or es (k - 1) d).mark.stamp s e)
-
-  is : Contains (stamps es) s → nat_eq (get_or es (k - 1) d).mark.stamp s ≡ true
-  is c =
-      let at : get_or (stamps es) (k - 1) 0 ≡ s = stopped_at es s (k - 1) d r c (omega arith) less (λ i h q. let l : i < k = below i h q in omega arith) in
-      eq-eqb (get_or es (k - 1) d).mark.stamp s (sym here ∙ at)
-
--- and where it comes to the oldest there is none
-pub nowhere : (es : List Entry) (s k : ℕ) → k ≤ 0 → ((i : ℕ) → i < length es → get_or (stamps es) i 0 ≡ s → i < k) → Contains (stamps es) s → ⊥
-nowhere es s k le below c =
-    let len : length (stamps es) ≡ length es = length-map es (λ x. x.mark.stamp) in
-    let low = c.1 in
-    let l : c.0 < k = below c.0 (omega arith) (get_or_default (stamps es) c.0 0 s low ∙ c.2) in
-    omega arith
 
 -- an entry that was not cleaned stands behind those that were
 pub not_cleaned : (es : List Entry) (cleaned s k : ℕ) → IsStrictlyIncreasing (stamps es) → Contains (stamps (drop cleaned es)) s → k < length es → get_or (stamps es) k 0 ≡ s → cleaned ≤ k

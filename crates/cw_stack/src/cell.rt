@@ -7,7 +7,7 @@ ghost use Rattle.cw_tree.specs.AccessStacks.{written_by, stamps};
 ghost use Rattle.cw_tree.specs.Newest.{last_eight};
 ghost use Rattle.cw_stack.specs.Cells.{entries_value, newest_entry, entry_of, AreSteps, GoesWithTrees, StaysWithTrees, TakesWhatIsBeneath, TellsWhatWasBefore};
 
-use cw_base::OutOfMemory;
+use cw_base::{OutOfMemory, Seq};
 use cw_tree::{Entry, Mark};
 use std::alloc::Global;
 use std::marker::Model;
@@ -152,6 +152,16 @@ impl Cell {
         self.entries.as_slice()
     }
 
+    /// Moves the entries out, oldest first. Their stamps rise. Each has the value that those before it left, and the value that it
+    /// leaves. Does not allocate.
+    pub fn into_journal(self) -> Seq<Entry>
+        ensures entries { result ≡ self.entries }
+        ensures rising { IsStrictlyIncreasing (stamps self.entries) }
+        ensures steps { AreSteps self.first self.entries }
+    {
+        Seq::from_vec(self.entries)
+    }
+
     /// Returns the stamps of the newest eight entries, or of all if there are fewer, oldest first.
     pub fn chain(&self) -> Result<Vec<u64>, OutOfMemory>
         ensures { IfOk result (λ chain. chain.items ≡ last_eight (stamps self.now.entries)) }
@@ -165,16 +175,14 @@ impl Cell {
     }
 }
 
-// Returns whether an entry has stamp `first`. Searches from the newest on.
+// Returns whether an entry has stamp `first`, by a binary search.
 fn has_stamp(entries: &[Entry], first: u64) -> bool
     requires { IsStrictlyIncreasing (stamps entries.now) }
     ensures { IsTrue result ↔ Contains (stamps entries.now) first }
 {
-    let mut left = entries.len();
-    while left > 0 && entries[left - 1].mark.stamp > first {
-        left -= 1;
-    }
-    left > 0 && entries[left - 1].mark.stamp == first
+    entries
+        .binary_search_by_key(&first, |entry| entry.mark.stamp)
+        .is_ok()
 }
 
 // Returns the position of the entry with stamp `first`. Searches from the newest on.

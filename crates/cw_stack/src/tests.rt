@@ -83,7 +83,7 @@ fn see(alloc: Global, init: i64, steps: &[Step]) -> Result<Seen, Fail> {
     }
     let chain = cell.chain()?;
     let last = cell.last().map(|mark| mark.stamp);
-    let olds = olds(alloc, cell.journal())?;
+    let olds = olds(alloc, cell.into_journal().as_slice())?;
     Ok(Seen {
         values,
         chain,
