@@ -462,16 +462,30 @@ try 'an expression of height 200' 0 $'out 200\nend\n' '' run
 try 'an expression of height 201' 5 '' $'cwstm: line 1: TooDeep\n' run
 
 {
-  for i in $(seq 4096); do echo "cell c$i = $i;"; done
-  echo 'fn main() { out c1 + c4096; }'
+  for i in $(seq 65536); do echo "cell c$i;"; done
+  echo 'fn main() { c1 = 2; c65536 = 3; out c1 + c65536; }'
 } > source
-try '4,096 cells' 0 "$(echo 'out 4097'; for i in $(seq 4096); do echo "c$i = $i"; done; echo end)"$'\n' '' run
+try '65,536 cells' 0 "$(echo 'out 5'; echo 'c1 = 2'; seq -f 'c%g = 0' 2 65535; echo 'c65536 = 3'; echo end)"$'\n' '' run
 
 {
-  for i in $(seq 4097); do echo "cell c$i;"; done
+  for i in $(seq 65537); do echo "cell c$i;"; done
   echo 'fn main() {}'
 } > source
-try '4,097 cells' 5 '' $'cwstm: line 4097: TooManyCells\n' run
+try '65,537 cells' 5 '' $'cwstm: line 65537: TooManyCells\n' run
+
+printf 'cell a[65537]; fn main() {}' > source
+try 'an array of 65,537 elements' 5 '' $'cwstm: line 1: TooManyCells\n' run
+printf 'cell b; cell a[65536]; fn main() {}' > source
+try '65,536 elements behind a cell' 5 '' $'cwstm: line 1: TooManyCells\n' run
+printf 'cell a[65535]; cell b;\ncell c; fn main() {}' > source
+try 'a cell behind 65,536 elements' 5 '' $'cwstm: line 2: TooManyCells\n' run
+printf 'cell a[65536]; fn main() { a[65535] = 3; }' > source
+for words in 'run --workers 1' 'run --workers 4' sim; do
+  # shellcheck disable=SC2086
+  try "65,536 elements, $words" 0 "$(seq -f 'a[%g] = 0' 0 65534; echo 'a[65535] = 3'; echo end)"$'\n' '' $words
+done
+printf 'cell a[65536]; fn main() { a[65536] = 3; }' > source
+try 'an index behind 65,536 elements' 6 $'fault Range in 0\n' '' run
 
 head -c 1048577 /dev/zero | tr '\0' ' ' > source
 try 'one byte more than a text may have' 5 '' $'cwstm: line 0: TooLong\n' run

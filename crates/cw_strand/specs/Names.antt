@@ -153,7 +153,7 @@ abbrev pub in_items : Scope → ℕ → List Declaration → Fault
 in_items g n [] = None
 in_items g n (cell x l len i ∷ ds) =
     declared_new (find x g) l
-    then (if nat_lt 4096 (n + elements len) then fault kind.TooManyCells l else None)
+    then (if nat_lt 65536 (n + elements len) then fault kind.TooManyCells l else None)
     then in_items ((x, cell_thing len) ∷ g) (n + elements len) ds
 in_items g n (func x l ps b ∷ ds) = declared_new (find x g) l then in_items ((x, a_function (length ps)) ∷ g) n ds
 

@@ -45,7 +45,7 @@ Faults =
     × (faulty (codes "fn main() { atomic { let x = 1; } let x = 2; spawn { let y = x; } let y = x; }") ≡ None)
     × (faulty (codes "fn main() { let x = 1; spawn {\n let x = 2; } }") ≡ names.fault Twice 2)
     × (faulty (codes "fn main() { spawn { atomic {\n out x; } } let x = 2; }") ≡ names.fault Unknown 2)
-    × (faulty (codes "cell a[4097]; fn main() {}") ≡ names.fault TooManyCells 1)
+    × (faulty (codes "cell a[65537]; fn main() {}") ≡ names.fault TooManyCells 1)
     × (faulty (codes "cell c; fn main() { c[0] = 1; }") ≡ names.fault NotACell 1)
     × (faulty (codes "cell a[2]; fn main() { out a; }") ≡ names.fault NotACell 1)
     × (faulty (codes "fn main() { out main[0]; }") ≡ names.fault NotACell 1)

@@ -11,7 +11,7 @@ pub enum NameKind {
     NoMain = 4,
     /// A `return` inside an `atomic` or `spawn` block of its function.
     ReturnInside = 5,
-    /// The cell that brings the number of elements over 4,096.
+    /// The cell that brings the number of elements over 65,536.
     TooManyCells = 6,
     /// An index on something that is no array, or an array without an index.
     NotACell = 7,

@@ -36,7 +36,7 @@ names_next {g} x line t left none same = same_trans (same_append left same) (sam
 
 module _ {old new : Declared} (x : List ℕ) (line : ℕ) where
   -- a cell whose name is new, and with which there are not too many elements
-  pub adds_cell : (len : ℕ) (init : ℤ) (ds : List Declaration) → declared_new (find x old.names) line ≡ None → (if nat_lt 4096 (old.elements + elements len) then fault TooManyCells line else None) ≡ None → IsSame new.names ((x, cell_thing len) ∷ old.names) → new.elements ≡ old.elements + elements len → new.cells.items ≡ old.cells.items ++ (record { name = x; len = len; base = old.elements; init = init } ∷ []) → IsSameWith (cell x line len init ∷ ds) old ds new
+  pub adds_cell : (len : ℕ) (init : ℤ) (ds : List Declaration) → declared_new (find x old.names) line ≡ None → (if nat_lt 65536 (old.elements + elements len) then fault TooManyCells line else None) ≡ None → IsSame new.names ((x, cell_thing len) ∷ old.names) → new.elements ≡ old.elements + elements len → new.cells.items ≡ old.cells.items ++ (record { name = x; len = len; base = old.elements; init = init } ∷ []) → IsSameWith (cell x line len init ∷ ds) old ds new
   adds_cell len init ds none room same size cells = record {
     faults = rw (none, room, size, in_items_same same (old.elements + elements len) ds) refl;
     names = names_next x line (cell_thing len) (globals ds) none same;

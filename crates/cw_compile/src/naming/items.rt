@@ -12,7 +12,7 @@ use cw_text::Item;
 use std::alloc::Global;
 
 /// The most elements that the cells of a program have together.
-const MOST_ELEMENTS: u32 = 4096;
+const MOST_ELEMENTS: u32 = 65_536;
 
 /// What items declare: their names, and the cells with the number of their elements.
 #[derive(Drop)]
@@ -20,7 +20,7 @@ pub(crate) struct Declared {
     pub(crate) names: Scope,
     pub(crate) cells: Vec<CellInfo>,
     pub(crate) elements: u32,
-    ghost few: { elements ≤ 4096 },
+    ghost few: { elements ≤ 65536 },
 }
 
 /// The fault of a name that is declared although it is taken.
@@ -99,9 +99,9 @@ impl Declared {
 
     /// Returns the number of elements of one more cell, or the fault that there are too many.
     fn size_of(&self, len: u64, line: u32) -> Result<u32, NameFault>
-        ensures exact { result_err result ≡ (if nat_lt 4096 (self.now.elements + elements len) then fault NameKind.TooManyCells line else None) }
+        ensures exact { result_err result ≡ (if nat_lt 65536 (self.now.elements + elements len) then fault NameKind.TooManyCells line else None) }
         ensures size { IfOk result (λ size. size ≡ elements len) }
-        ensures room { IfOk result (λ size. self.now.elements + size ≤ 4096) }
+        ensures room { IfOk result (λ size. self.now.elements + size ≤ 65536) }
     {
         let size = len.max(1);
         if size > u64::from(MOST_ELEMENTS - self.elements) {
