@@ -7,17 +7,20 @@ use Rattle.std.proofs.lemmas.Map.Steps.{length-le_from_distinct_below}
 use Rattle.cw_order.specs.Order.{position}
 use Rattle.cw_tree.specs.declared.node.Node.{Node}
 use Rattle.cw_tree.specs.Walks.{IsRooted}
-use Rattle.cw_tree.specs.Series.{children, parallel}
+use Rattle.cw_tree.specs.Series.{children, walk_by, parallel}
 use Rattle.cw_tree.specs.Shape.{IsTree}
 use Rattle.cw_tree.proofs.Lists.{In, any_in}
 use Rattle.cw_tree.proofs.Members.{all_of}
 use Rattle.cw_tree.proofs.Ahead.{distinct}
 use Rattle.cw_tree.proofs.Walks.Ancestors.{root_ancestor}
-use Rattle.cw_sp.specs.Orders.{walk_by, mirrored, english, hebrew, stands_before, is_leaf}
+use Rattle.cw_tree.proofs.InOrder.DepthFirst.{OrdersChildren, by_number}
+use Rattle.cw_tree.proofs.InOrder.Visits.{beneath, walk_once, walk_all}
+use Rattle.cw_sp.specs.Orders.{mirrored, english, hebrew, stands_before, is_leaf}
 use Rattle.cw_sp.specs.Lines.{IsWalk, KeepsLeaves}
+use Rattle.cw_sp.specs.InMemory.{ArePairs}
+use Rattle.cw_sp.specs.declared.pairs.Pairs.TheInside.{Inside}
 use Rattle.cw_sp.proofs.Lines.{element_there, elements_stand}
-use Rattle.cw_sp.proofs.Orders.{by_number, by_mirror, leaf_there, leaves_by_orders}
-use Rattle.cw_sp.proofs.Walks.Visits.{OrdersChildren, beneath, walk_once, walk_all}
+use Rattle.cw_sp.proofs.Orders.{by_mirror, leaf_there, leaves_by_orders}
 
 module _ (t : List Node) (r : IsRooted t) (some : 0 < length t) (order : ℕ → List ℕ) (o : OrdersChildren t order) where
   abbrev visited : List ℕ
@@ -67,27 +70,62 @@ module _ (t : List Node) (w : IsTree t) (u v : ℕ) (leaf : is_leaf t u ≡ true
     v_in : in_walk v
     v_in = all_visited t w.rooted w.some order o v (leaf_there t v other)
 
-    pub first_low : u < length elements
+    first_low : u < length elements
     first_low = let low = leaf_there t u leaf in omega (arith, k.nodes)
 
-    pub second_low : v < length elements
+    second_low : v < length elements
     second_low = let low = leaf_there t v other in omega (arith, k.nodes)
 
-    pub first_there : Contains list (slice_index elements u)
+    first_there : Contains list (slice_index elements u)
     first_there = element_there t (walk_by order (length t) 0) list elements k u u_in leaf
 
-    pub second_there : Contains list (slice_index elements v)
+    second_there : Contains list (slice_index elements v)
     second_there = element_there t (walk_by order (length t) 0) list elements k v v_in other
 
-    pub line_tells : (a : Bool) → (IsTrue a ↔ (position list (slice_index elements u) < position list (slice_index elements v))) → a ≡ stands_before (walk_by order (length t) 0) u v
+    line_tells : (a : Bool) → (IsTrue a ↔ (position list (slice_index elements u) < position list (slice_index elements v))) → a ≡ stands_before (walk_by order (length t) 0) u v
     line_tells a h =
         as_told a (position list (slice_index elements u)) (position list (slice_index elements v)) h.0 h.1
         ∙ elements_stand t (walk_by order (length t) 0) list elements k u v u_in v_in leaf other
 
   -- the leaves are parallel if the lines differ
-  pub lines_tell : (a b : Bool) → a ≡ stands_before (english t) u v → b ≡ stands_before (hebrew t) u v → not (beq a b) ≡ parallel t u v
+  lines_tell : (a b : Bool) → a ≡ stands_before (english t) u v → b ≡ stands_before (hebrew t) u v → not (beq a b) ≡ parallel t u v
   lines_tell a b e h =
       unequal a b
       ∙ ap (λ c. cond c (not b) b) e
       ∙ ap (λ c. cond (stands_before (english t) u v) (not c) c) h
       ∙ sym (leaves_by_orders t w u v leaf other)
+
+-- ## Two leaves of pairs
+
+-- what a line has of leaves u and v
+pub record HasLeaves (t : List Node) (u v : ℕ) (order : ℕ → List ℕ) (list elements : List ℕ) : Type 0 where
+  pub first_low : u < length elements
+  pub second_low : v < length elements
+  pub first_there : Contains list (slice_index elements u)
+  pub second_there : Contains list (slice_index elements v)
+  pub tells : (a : Bool) → (IsTrue a ↔ (position list (slice_index elements u) < position list (slice_index elements v))) → a ≡ stands_before (walk_by order (length t) 0) u v
+
+-- what both lines have of them
+pub record HaveLeaves (p : Inside) (u v : ℕ) : Type 0 where
+  pub in_english : HasLeaves p.tree.now u v (children p.tree.now) p.english.list.elements p.english.elements.items
+  pub in_hebrew : HasLeaves p.tree.now u v (mirrored p.tree.now) p.hebrew.list.elements p.hebrew.elements.items
+  pub tell : (a b : Bool) → a ≡ stands_before (english p.tree.now) u v → b ≡ stands_before (hebrew p.tree.now) u v → not (beq a b) ≡ parallel p.tree.now u v
+
+pub have_leaves : (p : Inside) → ArePairs p → (t : List Node) → p.tree.now ≡ t → (u v : ℕ) → is_leaf t u ≡ true → is_leaf t v ≡ true → HaveLeaves p u v
+have_leaves p w t same u v leaf other =
+    let s = p.tree.now in
+    let first : is_leaf s u ≡ true = ap (λ (x : List Node). is_leaf x u) same ∙ leaf in
+    let second : is_leaf s v ≡ true = ap (λ (x : List Node). is_leaf x v) same ∙ other in
+    let has : (order : ℕ → List ℕ) → OrdersChildren s order → (list elements : List ℕ) → KeepsLeaves s (walk_by order (length s) 0) list elements → HasLeaves s u v order list elements =
+    λ order o list elements k. record {
+      first_low = first_low s w.tree u v first second order o list elements k;
+      second_low = second_low s w.tree u v first second order o list elements k;
+      first_there = first_there s w.tree u v first second order o list elements k;
+      second_there = second_there s w.tree u v first second order o list elements k;
+      tells = line_tells s w.tree u v first second order o list elements k;
+    } in
+    record {
+      in_english = has (children s) (by_number s) p.english.list.elements p.english.elements.items w.english;
+      in_hebrew = has (mirrored s) (by_mirror s w.tree) p.hebrew.list.elements p.hebrew.elements.items w.hebrew;
+      tell = lines_tell s w.tree u v first second;
+    }

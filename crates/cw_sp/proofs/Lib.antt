@@ -1,5 +1,4 @@
 pub mod Positions
 pub mod Orders
-pub mod Walks
 pub mod Lines
 pub mod BothLines

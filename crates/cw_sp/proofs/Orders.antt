@@ -1,36 +1,29 @@
 -- Both walks visit the children of the node at which two nodes part in the same order, or, at a fork, in opposite orders.
-use Rattle.std.proofs.Common.{◌≡◌, ℕ, zero, suc, ◌<◌, ◌≤◌, List, [], ◌∷◌, length, reverse, refl, ap, sym, ◌∙◌, arith, Bool, true, false, inl, inr, subst, cond, nat_lt, Option, Some, None}
+use Rattle.std.proofs.Common.{◌≡◌, ℕ, ◌<◌, ◌≤◌, List, [], ◌∷◌, length, reverse, refl, ap, sym, ◌∙◌, arith, Bool, true, false, inl, inr, subst, cond, nat_lt, Option, Some, None}
 use Rattle.std.specs.Prelude.{◌⊎◌, ◌&&◌, ◌||◌, not, slice_get}
 use Rattle.std.proofs.lemmas.Bool.{and_from, and_right, lt-ltb, ltb-true, not_from_false, not-true, false_from_ne_true, cases_lt, cases_eq}
 use Rattle.cw_order.specs.Order.{position}
 use Rattle.cw_tree.specs.declared.node.Node.{Node}
 use Rattle.cw_tree.specs.Nodes.{passes, is_fork, is_strand, is_block, is_strand_kind, is_fork_kind, is_block_kind}
 use Rattle.cw_tree.specs.Walks.{IsRooted, is_ancestor, lca}
-use Rattle.cw_tree.specs.Series.{children, walk, parallel, is_before}
+use Rattle.cw_tree.specs.Series.{children, walk_by, parallel, is_before}
 use Rattle.cw_tree.specs.Shape.{IsTree}
 use Rattle.cw_tree.proofs.Lists.{In}
 use Rattle.cw_tree.proofs.Ahead.{Apart, Ahead}
-use Rattle.cw_tree.proofs.Rising.{rises_apart, rises_ahead}
+use Rattle.cw_tree.proofs.Rising.{rises_ahead}
 use Rattle.cw_tree.proofs.Walks.Ancestors.{ancestor_self, ancestor_le, root_ancestor}
 use Rattle.cw_tree.proofs.Walks.Kin.{Branch, branch}
 use Rattle.cw_tree.proofs.Walks.Meets.{IsMeet}
 use Rattle.cw_tree.proofs.Walks.Parting.{meet, left, right, branches_differ, first_comes, by_branches, fork_apart}
 use Rattle.cw_tree.proofs.Walks.There.{node_there, fork_there}
-use Rattle.cw_tree.proofs.InOrder.DepthFirst.{child_in, children_rise}
-use Rattle.cw_sp.specs.Orders.{walk_by, mirrored, english, hebrew, stands_before, orders_differ, is_leaf}
+use Rattle.cw_tree.proofs.InOrder.DepthFirst.{OrdersChildren, by_number, child_in, children_rise}
+use Rattle.cw_tree.proofs.InOrder.Visits.{walk_once, walk_ahead}
+use Rattle.cw_sp.specs.Orders.{mirrored, english, hebrew, stands_before, orders_differ, is_leaf}
 use Rattle.cw_sp.specs.Laws.{TwoOrders, LeavesAreApart, LeavesByOrders, EnglishIsDepthFirst}
 use Rattle.cw_sp.proofs.Positions.{ahead_position}
-use Rattle.cw_sp.proofs.Walks.Visits.{OrdersChildren, walk_once, walk_ahead, flat_same}
-
-same_walk : (t : List Node) (k n : ℕ) → walk_by (children t) k n ≡ walk t k n
-same_walk t zero n = refl
-same_walk t (suc k) n = ap (λ ns. n ∷ ns) (flat_same (walk_by (children t) k) (walk t k) (children t n) (λ x i. same_walk t k x))
 
 pub english_is_depth_first : EnglishIsDepthFirst
-english_is_depth_first t = same_walk t (length t) 0
-
-pub by_number : (t : List Node) → OrdersChildren t (children t)
-by_number t = record { all = λ n m i. i; only = λ n m i. i; once = λ n. rises_apart (children t n) (children_rise t n) }
+english_is_depth_first t = refl
 
 -- ## Two children, mirrored
 

@@ -1,15 +1,9 @@
 -- The two depth-first orders of a tree. The English order visits the left strand of a fork first, the Hebrew order the right one.
-use Rattle.std.specs.Prelude.{ℕ, zero, suc, ◌||◌, Bool, not, nat_lt, List, [], ◌∷◌, length, reverse, if◌then◌else◌}
-use Rattle.std.specs.List.{flat_map}
+use Rattle.std.specs.Prelude.{ℕ, ◌||◌, Bool, not, nat_lt, List, length, reverse, if◌then◌else◌}
 use Rattle.cw_order.specs.Order.{position}
 use Rattle.cw_tree.specs.declared.node.Node.{Node}
 use Rattle.cw_tree.specs.Nodes.{is_node, is_fork, is_strand_kind, is_fork_kind, is_block_kind}
-use Rattle.cw_tree.specs.Series.{children}
-
--- the nodes from n down, depth first, to k levels; `order` gives the children of a node in the order of their visits
-abbrev pub walk_by : (ℕ → List ℕ) → ℕ → ℕ → List ℕ
-walk_by order zero n = n ∷ []
-walk_by order (suc k) n = n ∷ flat_map (walk_by order k) (order n)
+use Rattle.cw_tree.specs.Series.{children, walk_by}
 
 -- the children of n, those of a fork from right to left
 abbrev pub mirrored : List Node → ℕ → List ℕ

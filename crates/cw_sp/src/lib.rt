@@ -7,7 +7,6 @@
 ghost use Rattle.cw_sp.specs.Laws.{EnglishIsDepthFirst, LeavesAreApart, LeavesByOrders, TwoOrders};
 ghost use Rattle.cw_sp.specs.Worked.{Leaves, Orders, Pairs};
 
-mod family;
 mod line;
 mod pairs;
 

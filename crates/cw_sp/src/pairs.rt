@@ -1,13 +1,12 @@
-ghost use Rattle.std.specs.Prelude.{◌≡◌, ◌+◌, ◌≤◌, IsTrue, IfOk};
+ghost use Rattle.std.specs.Prelude.{◌≡◌, ◌+◌, ◌<◌, ◌≤◌, ◌++◌, length, reverse, IsTrue, IfOk, OnOk};
 ghost use Rattle.cw_tree.specs.Shape.{IsTree};
 ghost use Rattle.cw_tree.specs.Series.{parallel};
-ghost use Rattle.cw_sp.specs.Orders.{hebrew, is_leaf};
+ghost use Rattle.cw_sp.specs.Orders.{hebrew, is_leaf, mirrored};
 
-use crate::family::Family;
 use crate::line::Line;
 use cw_base::OutOfMemory;
 use cw_order::Steps;
-use cw_tree::Tree;
+use cw_tree::{Family, Tree};
 use std::alloc::Global;
 use std::marker::Model;
 use std::sync::ledger::Ledger;
@@ -74,14 +73,27 @@ fn hebrew_order(alloc: Global, tree: &Tree) -> Result<Vec<u32>, OutOfMemory>
     requires { IsTree tree.now }
     ensures { IfOk result (λ order. order.items ≡ hebrew tree.now) }
 {
-    let family = Family::of_tree(alloc, tree)?;
+    let family = Family::of_tree(tree)?;
     let mut order = Vec::new(alloc);
     // the nodes that are still to be visited, the next one last
     let mut stack = Vec::new(alloc);
     stack.push(0)?;
     while let Some(n) = stack.pop() {
-        family.push_mirrored(tree, n, &mut stack)?;
+        push_mirrored(&family, n, &mut stack)?;
         order.push(n)?;
     }
     Ok(order)
+}
+
+/// Pushes a node's children on a stack, so that the one that the Hebrew order visits first is on top.
+fn push_mirrored(family: &Family, n: u32, stack: &mut Vec<u32>) -> Result<(), OutOfMemory>
+    requires { n < length family.now }
+    ensures { OnOk result (stack.new.items ≡ stack.old.items ++ reverse (mirrored family.now n)) }
+{
+    let bottom = stack.len();
+    family.push_children(n, stack)?;
+    if family.tree().is_fork(n) {
+        stack[bottom..].reverse();
+    }
+    Ok(())
 }

@@ -1,6 +1,6 @@
 use Rattle.std.proofs.Common.{length}
 use Rattle.cw_sp.specs.Orders.{mirrored}
-use Rattle.cw_sp.proofs.Walks.Stack.{Walking, to_come}
+use Rattle.cw_tree.proofs.InOrder.DepthFirst.{Walking, to_come}
 use Rattle.cw_sp.proofs.pairs.hebrew_order.Given as goal
 
 abbrev pub invariant-loop-n : goal.invariant-loop-n
