@@ -1,4 +1,5 @@
 pub mod Columns
+pub mod Labels
 pub mod Marks
 pub mod Traces
 pub mod Tier

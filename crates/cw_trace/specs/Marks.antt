@@ -7,6 +7,8 @@ pub record Marks : Type 0 where
   pub marks : List ℕ
   -- above each mark
   pub room : ℕ
+  -- the label of each mark
+  pub labels : List ℕ
 
 -- the marks with m right after the given one, or first if none is given
 abbrev pub with_mark : Option ℕ → ℕ → List ℕ → List ℕ

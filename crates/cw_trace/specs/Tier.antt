@@ -4,6 +4,7 @@ use Rattle.cw_tree.specs.Walks.{has}
 use Rattle.cw_trace.specs.declared.tier.Trace.{Trace}
 use Rattle.cw_trace.specs.declared.tier.Tier.TheInside.{Inside}
 use Rattle.cw_trace.specs.Columns.{ColumnTable, used, owner, is_trace, outer, opening_mark, closing_mark}
+use Rattle.cw_trace.specs.Labels.{AreInOrder}
 use Rattle.cw_trace.specs.Keeps.{Distinct}
 use Rattle.cw_trace.specs.Traces.{Traces}
 
@@ -18,6 +19,7 @@ traces_of a = record {
     brackets = a.brackets.marks;
     outers = a.outers.items;
   };
+  labels = a.brackets.labels;
 }
 
 -- how many columns name a trace
@@ -52,4 +54,5 @@ pub record IsTierInMemory (a : Inside) : Type 0 where
   pub traces_room : a.room ≤ vec_capacity a.traces
   pub outers_room : a.room ≤ vec_capacity a.outers
   pub brackets_room : a.brackets.room ≡ 2 * a.room
+  pub labelled : AreInOrder a.brackets.marks a.brackets.labels
   pub sound : AreSound (traces_of a).columns

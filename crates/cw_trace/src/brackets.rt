@@ -2,6 +2,7 @@ ghost use Rattle.std.specs.Prelude.{◌≡◌, ℕ, ◌+◌, ◌<◌, ◌≤◌,
 ghost use Rattle.std.specs.Option.{ForSome};
 ghost use Rattle.cw_tree.specs.Walks.{has};
 ghost use Rattle.cw_trace.specs.Columns.{stands_before, opening_mark, closing_mark, marks, place_after, is_mark_of};
+ghost use Rattle.cw_trace.specs.Labels.{AreInOrder};
 ghost use Rattle.cw_trace.specs.Marks.{with_mark};
 
 use cw_base::{OutOfMemory, put};
@@ -49,6 +50,7 @@ impl Brackets {
     pub(crate) fn with_room(alloc: Global, room: u32) -> Result<Brackets, OutOfMemory>
         ensures none { IfOk result (λ b. b.marks ≡ []) }
         ensures room { IfOk result (λ b. b.room ≡ room) }
+        ensures labels { IfOk result (λ b. AreInOrder b.marks b.labels) }
     {
         Ok(Brackets {
             order: OrderList::with_room(alloc, room)?,
@@ -65,6 +67,7 @@ impl Brackets {
         requires few { length self.old.marks < self.old.room }
         ensures marks { self.new.marks ≡ with_mark at mark self.old.marks }
         ensures room { self.new.room ≡ self.old.room }
+        ensures labels { AreInOrder self.new.marks self.new.labels }
     {
         let place = match at {
             Some(other) => Some(self.elements[other as usize]),
@@ -85,6 +88,7 @@ impl Brackets {
         requires { has self.old.marks mark ≡ true }
         ensures marks { self.new.marks ≡ filter (λ m. not (m == mark)) self.old.marks }
         ensures room { self.new.room ≡ self.old.room }
+        ensures labels { AreInOrder self.new.marks self.new.labels }
     {
         self.order.remove(self.elements[mark as usize]);
     }
@@ -97,6 +101,14 @@ impl Brackets {
         ensures cost { steps.new ≡ steps.old + 1 }
     {
         self.order.before(self.elements[a as usize], self.elements[b as usize], steps)
+    }
+
+    /// Returns the label of `mark`.
+    pub(crate) fn label(&self, mark: u32) -> u64
+        requires { has self.now.marks mark ≡ true }
+        ensures { result ≡ slice_index self.now.labels mark }
+    {
+        self.order.label(self.elements[mark as usize])
     }
 
     /// Inserts the brackets of both traces of a split fork right after the opening mark of `trace`: first those of the left trace,
@@ -113,6 +125,7 @@ impl Brackets {
         requires trace { opening_mark trace < 2 ^ 32 }
         ensures marks { self.new.marks ≡ place_after (opening_mark trace) (marks fork) self.old.marks }
         ensures room { self.new.room ≡ self.old.room }
+        ensures labels { AreInOrder self.new.marks self.new.labels }
     {
         let left = 2 * fork;
         self.insert(Some(2 * trace), left);
@@ -131,6 +144,7 @@ impl Brackets {
         ensures marks { self.new.marks
             ≡ filter (λ b. not (is_mark_of fork b || is_mark_of (fork + 1) b)) self.old.marks }
         ensures room { self.new.room ≡ self.old.room }
+        ensures labels { AreInOrder self.new.marks self.new.labels }
     {
         let left = 2 * fork;
         self.remove(left);

@@ -26,7 +26,7 @@ pub use hands::{
     hands_differ, later_stays, loads_decide, order_is_kept, told_of_moments, worked_hands,
 };
 pub use queries::query_laws;
-pub use tier::{Early, Inline, Tier, TierReader, Trace};
+pub use tier::{Early, Inline, Row, Tier, TierReader, Trace};
 pub use verdict::Verdict;
 
 /// Laws: what a tier that represents a tree tells of the tree, and which steps besides the calls keep it so.

@@ -1,5 +1,6 @@
 ghost use Rattle.std.specs.Prelude.{◌≡◌, ◌^◌, map, ℕ, ◌<◌, ◌≤◌, ◌+◌, ◌%◌, ◌++◌, ◌∷◌, [], true, false, Option, Some, None, length, IsErr, IfOk, IfErr, OnOk, OnErr, vec_len, vec_capacity, slice_get, slice_index};
 ghost use Rattle.cw_trace.specs.Columns as columns;
+ghost use Rattle.cw_trace.specs.Labels.{AreLabels, full_row};
 
 mod reader;
 
@@ -17,6 +18,19 @@ pub struct Trace {
     pub head: u32,
     pub lead: Option<u32>,
     pub up: Option<u32>,
+}
+
+/// The row of a column: its trace and its gap, and of the trace that it names the head, the lead, the nearest trace around it that
+/// has a pending block, and the labels of both brackets. If it names no trace, these are 0 and `None`.
+#[derive(Clone, Copy, Drop, Debug)]
+pub struct Row {
+    pub owner: u32,
+    pub gap: u32,
+    pub head: u32,
+    pub lead: Option<u32>,
+    pub up: Option<u32>,
+    pub opening: u64,
+    pub closing: u64,
 }
 
 /// The fork gets no columns, because fewer than two are left.
@@ -171,6 +185,7 @@ impl Tier {
     pub fn with_strands(alloc: Global, m: u32) -> Result<Tier, OutOfMemory>
         requires { 0 < m }
         ensures first { IfOk result (λ t. t.columns ≡ columns.first_tier m) }
+        ensures labels { IfOk result (λ t. AreLabels t.columns t.labels) }
         // the brackets of more columns have no numbers of 32 bits
         ensures large { 2 ^ 31 ≤ m → IsErr result }
     {
@@ -215,6 +230,31 @@ impl Tier {
         ensures { result ≡ columns.gap self.now.columns strand }
     {
         self.gaps[strand as usize]
+    }
+
+    /// Returns the row of `column`. Labels rise in the order of the brackets, and none is 0.
+    pub fn row(&self, column: u32) -> Row
+        requires { column < columns.used self.now.columns }
+        ensures { result ≡ full_row self.now.columns self.now.labels column }
+    {
+        let trace = row_of(self.traces.as_slice(), column);
+        let (opening, closing) = if self.is_trace(column) {
+            (
+                self.brackets.label(2 * column),
+                self.brackets.label(2 * column + 1),
+            )
+        } else {
+            (0, 0)
+        };
+        Row {
+            owner: self.owners[column as usize],
+            gap: self.gaps[column as usize],
+            head: trace.head,
+            lead: trace.lead,
+            up: trace.up,
+            opening,
+            closing,
+        }
     }
 
     /// Returns whether `trace` lies inside `outer`.
@@ -280,6 +320,7 @@ impl Tier {
             (self.new.columns ≡ columns.forked word parent self.old.columns) }
         ensures inline { OnErr result (self.old.columns.room < columns.used self.old.columns + 2) }
         ensures err { OnErr result (self.new ≡ self.old) }
+        ensures labels { AreLabels self.new.columns self.new.labels }
         ensures keeps { ForkKeeps word parent self.old.columns self.new.columns }
     {
         self.fork_columns(word, parent)
@@ -295,6 +336,7 @@ impl Tier {
         ensures early { IfErr result
             (λ e. columns.before_split self.old.columns fork ≡ Some e.before) }
         ensures err { OnErr result (self.new ≡ self.old) }
+        ensures labels { AreLabels self.new.columns self.new.labels }
         ensures keeps { OnOk result (SplitKeeps fork self.old.columns self.new.columns) }
         ensures allowed { OnOk result (NoneBars fork self.old.columns) }
         ensures barred { IfErr result (λ e. NextBars fork e.before self.old.columns) }
@@ -308,6 +350,7 @@ impl Tier {
         requires left { fork % 2 ≡ 1 }
         requires split { columns.is_trace self.old.columns fork ≡ true }
         ensures merged { self.new.columns ≡ columns.merged fork self.old.columns }
+        ensures labels { AreLabels self.new.columns self.new.labels }
         ensures keeps { MergeKeeps fork self.old.columns self.new.columns }
     {
         self.merge_columns(fork);
@@ -323,6 +366,7 @@ impl Tier {
             (self.new.columns ≡ columns.forked word parent self.old.columns) }
         ensures inline { OnErr result (self.old.columns.room < columns.used self.old.columns + 2) }
         ensures err { OnErr result (self.new ≡ self.old) }
+        ensures labels { AreLabels self.new.columns self.new.labels }
     {
         let used = self.owners.len();
         if (self.room as usize) < used + 2 {
@@ -354,6 +398,7 @@ impl Tier {
         ensures early { IfErr result
             (λ e. columns.before_split self.old.columns fork ≡ Some e.before) }
         ensures err { OnErr result (self.new ≡ self.old) }
+        ensures labels { AreLabels self.new.columns self.new.labels }
     {
         if let Some(before) = self.before_split(fork) {
             return Err(Early { before });
@@ -389,7 +434,8 @@ impl Tier {
         requires low { fork < columns.used self.old.columns }
         requires left { fork % 2 ≡ 1 }
         requires split { columns.is_trace self.old.columns fork ≡ true }
-        ensures { self.new.columns ≡ columns.merged fork self.old.columns }
+        ensures merged { self.new.columns ≡ columns.merged fork self.old.columns }
+        ensures labels { AreLabels self.new.columns self.new.labels }
     {
         let trace = self.owners[self.parents[fork as usize] as usize];
         let row = row_of(self.traces.as_slice(), trace);

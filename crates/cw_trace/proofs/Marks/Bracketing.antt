@@ -1,14 +1,16 @@
 -- What brackets keep: each mark has its element, also as marks are put in and taken out.
-use Rattle.std.proofs.Common.{◌≡◌, ◌≢◌, ℕ, ◌+◌, ◌<◌, ◌≤◌, ◌∷◌, map, length, nat_eq, not, refl, sym, ap, ◌∙◌, arith, Bool, true, false, Option, Some, None, inl, inr, subst}
-use Rattle.std.specs.Prelude.{◌⊎◌, ◌↔◌, IsTrue, slice_index, slice_index_or, slice_set}
+use Rattle.std.proofs.Common.{◌≡◌, ◌≢◌, ℕ, ◌<◌, ◌≤◌, ◌∷◌, map, length, nat_eq, not, refl, sym, ap, ◌∙◌, arith, Bool, true, false, Option, Some, None, inl, inr, subst}
+use Rattle.std.specs.Prelude.{◌⊎◌, ◌↔◌, IsTrue, nat_lt, slice_index, slice_index_or, slice_set}
 use Rattle.std.specs.List.{filter, Contains, IsDistinct}
 use Rattle.std.specs.Option.{option_map}
 use Rattle.std.specs.Vec.{vec_capacity}
-use Rattle.std.proofs.lemmas.List.{get_or_read, get_or-set_same, get_or-set_other, length-set}
-use Rattle.cw_order.specs.Order.{placed_after, without, position}
+use Rattle.std.proofs.lemmas.List.{get_or_read, get_or-map, get_or-set_same, get_or-set_other, length-set}
+use Rattle.std.proofs.lemmas.Bool.Decides.{Decides-ltb}
+use Rattle.cw_order.specs.Order.{AreLabels, placed_after, without, position}
 use Rattle.cw_tree.specs.Walks.{has}
 use Rattle.cw_trace.specs.declared.brackets.Brackets.TheInside.{Inside}
 use Rattle.cw_trace.specs.Columns.{stands_before}
+use Rattle.cw_trace.specs.Labels.{AreInOrder}
 use Rattle.cw_trace.specs.Marks.{Marks, with_mark}
 use Rattle.cw_trace.specs.Brackets.{bracket_of, marks_of, AreBracketsInMemory}
 use Rattle.cw_trace.proofs.Marks.Numbering.{Differ, has_map, map_has, map_alike, map_placed, map_without, map_before, has_cases, has_contains, placed_has, without_has}
@@ -53,7 +55,7 @@ place_none a at place p q = record { there = λ x h. absurd (cc (q, h)); marks =
 -- longer tables, with each read as before
 pub record HasReached (a d : Inside) : Type 0 where
   pub kept : AreBracketsInMemory d
-  pub marks : marks_of d ≡ marks_of a
+  pub marks : (marks_of d).marks ≡ (marks_of a).marks
   pub place : (at place : Option ℕ) → Place a at place → Place d at place
 
 pub reached : (a d : Inside) → AreBracketsInMemory a → d.order ≡ a.order → ((k : ℕ) → slice_index d.elements.items k ≡ slice_index a.elements.items k) → ((k : ℕ) → slice_index d.marks.items k ≡ slice_index a.marks.items k)
@@ -62,14 +64,14 @@ reached a d k order elements marks more_elements more_marks elements_as marks_as
   kept = record {
     elements_room = omega (arith, k.elements_room, ap (λ o. o.room) order);
     marks_room = omega (arith, k.marks_room, ap (λ o. o.room) order);
+    labelled = subst AreLabels (sym order) k.labelled;
     distinct = subst (λ o. IsDistinct nat_eq o.elements) (sym order) k.distinct;
     low = λ e h. (let l = k.low e (old e h) in omega (arith, more_marks));
     mark_low = λ e h. (let l = k.mark_low e (old e h) in omega (arith, marks e, more_elements));
     back = λ e h. ap (slice_index d.elements.items) (marks e) ∙ elements (bracket_of a e) ∙ k.back e (old e h);
   };
   marks =
-      ap (λ o. let s : Marks = record { marks = map (λ e. slice_index d.marks.items e) o.elements; room = o.room } in s) order
-      ∙ ap (λ ms. let s : Marks = record { marks = ms; room = a.order.room } in s) (map_alike (bracket_of d) (bracket_of a) a.order.elements (λ x h. marks x));
+      ap (λ o. map (λ e. slice_index d.marks.items e) o.elements) order ∙ map_alike (bracket_of d) (bracket_of a) a.order.elements (λ x h. marks x);
   place = λ at place p. record { there = λ x h. ap (λ o. has o.elements x) order ∙ p.there x h; marks = p.marks ∙ same place };
 } where
   old : (e : ℕ) → has d.order.elements e ≡ true → has a.order.elements e ≡ true
@@ -84,13 +86,14 @@ pub record HasInserted (a d : Inside) (at : Option ℕ) (m : ℕ) : Type 0 where
   pub kept : AreBracketsInMemory d
   pub marks : (marks_of d).marks ≡ with_mark at m (marks_of a).marks
 
-pub inserted : (a d : Inside) (at place : Option ℕ) (e m : ℕ) → AreBracketsInMemory a → at ≡ option_map (bracket_of a) place → ((x : ℕ) → place ≡ Some x → has a.order.elements x ≡ true)
+pub inserted : (a d : Inside) (at place : Option ℕ) (e m : ℕ) → AreBracketsInMemory a → AreLabels d.order → at ≡ option_map (bracket_of a) place → ((x : ℕ) → place ≡ Some x → has a.order.elements x ≡ true)
     → (Contains a.order.elements e → ⊥) → e < length a.marks.items → d.order.elements ≡ placed_after place e a.order.elements → IsDistinct nat_eq d.order.elements → d.order.room ≡ a.order.room
     → d.elements.items ≡ slice_set a.elements.items m e → d.marks.items ≡ slice_set a.marks.items e m → vec_capacity d.elements ≡ vec_capacity a.elements → vec_capacity d.marks ≡ vec_capacity a.marks → m < length a.elements.items → has (marks_of a).marks m ≡ false → HasInserted a d at m
-inserted a d at place e m k same_at there fresh high placed distinct room elements marks elements_as marks_as low lacks = record {
+inserted a d at place e m k labelled same_at there fresh high placed distinct room elements marks elements_as marks_as low lacks = record {
   kept = record {
     elements_room = omega (arith, k.elements_room, room, elements_as);
     marks_room = omega (arith, k.marks_room, room, marks_as);
+    labelled = labelled;
     distinct = distinct;
     low = λ x h. elim (cases x h) [ inl q ↦ omega (arith, q, marks_long) | inr g ↦ (let l = k.low x g in omega (arith, marks_long)) ];
     mark_low = λ x h. elim (cases x h) [ inl q ↦ omega (arith, ap (bracket_of d) (sym q), mark_new, elements_long) | inr g ↦ (let l = k.mark_low x g in omega (arith, mark_old x g, elements_long)) ];
@@ -138,11 +141,12 @@ pub record HasRemoved (a d : Inside) (m : ℕ) : Type 0 where
   pub kept : AreBracketsInMemory d
   pub marks : (marks_of d).marks ≡ filter (λ b. not (nat_eq b m)) (marks_of a).marks
 
-pub removed : (a d : Inside) (e m : ℕ) → AreBracketsInMemory a → Marked a m e → d.order.elements ≡ without e a.order.elements → IsDistinct nat_eq d.order.elements → d.order.room ≡ a.order.room → d.elements.items ≡ a.elements.items → d.marks.items ≡ a.marks.items → vec_capacity d.elements ≡ vec_capacity a.elements → vec_capacity d.marks ≡ vec_capacity a.marks → HasRemoved a d m
-removed a d e m k w out distinct room elements marks elements_as marks_as = record {
+pub removed : (a d : Inside) (e m : ℕ) → AreBracketsInMemory a → AreLabels d.order → Marked a m e → d.order.elements ≡ without e a.order.elements → IsDistinct nat_eq d.order.elements → d.order.room ≡ a.order.room → d.elements.items ≡ a.elements.items → d.marks.items ≡ a.marks.items → vec_capacity d.elements ≡ vec_capacity a.elements → vec_capacity d.marks ≡ vec_capacity a.marks → HasRemoved a d m
+removed a d e m k labelled w out distinct room elements marks elements_as marks_as = record {
   kept = record {
     elements_room = omega (arith, k.elements_room, room, elements_as);
     marks_room = omega (arith, k.marks_room, room, marks_as);
+    labelled = labelled;
     distinct = distinct;
     low = λ x h. (let l = k.low x (old x h) in omega (arith, ap length marks));
     mark_low = λ x h. (let l = k.mark_low x (old x h) in omega (arith, same x, ap length elements));
@@ -181,3 +185,36 @@ told a s k v m n x y p q r w = by_case r (stands_before s.marks m n) refl w wher
   by_case true b e w = sym (both.0 (w.0 refl))
   by_case false true e w = absurd (cc (w.1 (both.1 e)))
   by_case false false e w = sym e
+
+-- ## Labels
+
+-- the label of a mark is that of its element
+pub label_is : (a : Inside) → AreBracketsInMemory a → (m e : ℕ) → Marked a m e → slice_index (marks_of a).labels m ≡ slice_index a.order.labels e
+label_is a k m e w =
+    let same : slice_index a.elements.items m ≡ e = ap (slice_index a.elements.items) (sym w.marks) ∙ k.back e w.there in
+    get_or-map (λ x. slice_index a.order.labels x) a.elements.items m 0 0 w.low ∙ ap (λ x. slice_index a.order.labels x) same
+
+-- the element of a mark
+pub element_of : (a : Inside) → AreBracketsInMemory a → (m : ℕ) → has (marks_of a).marks m ≡ true → (e : ℕ) × Marked a m e
+element_of a k m h =
+    let z = has_map (bracket_of a) a.order.elements m h in
+    let low = k.mark_low z.0 z.1 in
+    (z.0, record { there = z.1; marks = z.2; low = omega (arith, z.2) })
+
+pub in_order : (a : Inside) → AreBracketsInMemory a → AreInOrder (marks_of a).marks (marks_of a).labels
+in_order a k = record { low = low; order = order } where
+  low : (m : ℕ) → has (marks_of a).marks m ≡ true → 0 < slice_index (marks_of a).labels m
+  low m h =
+      let z = element_of a k m h in
+      let above = k.labelled.low z.0 (has_contains a.order.elements z.0 z.1.there) in
+      omega (arith, above, label_is a k m z.0 z.1)
+
+  order : (m n : ℕ) → has (marks_of a).marks m ≡ true → has (marks_of a).marks n ≡ true → nat_lt (slice_index (marks_of a).labels m) (slice_index (marks_of a).labels n) ≡ stands_before (marks_of a).marks m n
+  order m n h g =
+      let y = element_of a k m h in
+      let z = element_of a k n g in
+      let l = slice_index a.order.labels in
+      let both = k.labelled.order y.0 z.0 (has_contains a.order.elements y.0 y.1.there) (has_contains a.order.elements z.0 z.1.there) in
+      let less = Decides-ltb (l y.0) (l z.0) in
+      ap (λ i. nat_lt i (slice_index (marks_of a).labels n)) (label_is a k m y.0 y.1) ∙ (ap (nat_lt (l y.0)) (label_is a k n z.0 z.1)
+      ∙ told a (marks_of a) k refl m n y.0 z.0 y.1 z.1 (nat_lt (l y.0) (l z.0)) ((λ t. both.0 (less.0 t)), λ p. less.1 (both.1 p)))

@@ -3,7 +3,7 @@ use Rattle.std.specs.Vec.{with_item}
 use Rattle.cw_tree.specs.Walks.{has}
 use Rattle.cw_trace.specs.declared.brackets.Brackets.TheInside.{Inside}
 use Rattle.cw_trace.specs.Marks.{with_mark}
-use Rattle.cw_trace.proofs.Marks.Bracketing.{mark_low, marked, Place, place_some, place_none, HasInserted, HasReached, inserted, reached}
+use Rattle.cw_trace.proofs.Marks.Bracketing.{mark_low, marked, Place, place_some, place_none, HasInserted, HasReached, inserted, reached, in_order}
 use Rattle.cw_trace.proofs.Marks.Numbering.{has_contains}
 use Rattle.cw_trace.proofs.brackets.Brackets.insert.Goals as goal
 use Rattle.cw_trace.proofs.brackets.Brackets.insert.Goals.{in-Some, in-None}
@@ -43,11 +43,14 @@ is_inserted c =
     let r = is_reached c in
     let q = r.place c.args.at c.match-at.place p in
     inserted b (record { order = c.insert_after.new.self; elements = with_item b.elements c.args.mark c.in-Ok.element; marks = with_item b.marks c.in-Ok.element c.args.mark }) c.args.at c.match-at.place c.in-Ok.element c.args.mark
-    r.kept q.marks q.there c.in-Ok.ensures.new (omega (arith, c.reach-in-Ok.ensures.there, b.marks.ok.0)) c.in-Ok.ensures.placed c.in-Ok.ensures.distinct c.in-Ok.ensures.room refl refl refl refl
-    (omega (arith, c.reach.ensures.there, b.elements.ok.0)) (ap (λ s. has s.marks c.args.mark) (r.marks ∙ c.self.view_is) ∙ c.requires.new)
+    r.kept c.insert_after.ensures.labels q.marks q.there c.in-Ok.ensures.new (omega (arith, c.reach-in-Ok.ensures.there, b.marks.ok.0)) c.in-Ok.ensures.placed c.in-Ok.ensures.distinct c.in-Ok.ensures.room refl refl refl refl
+    (omega (arith, c.reach.ensures.there, b.elements.ok.0)) (ap (λ ms. has ms c.args.mark) (r.marks ∙ ap (λ s. s.marks) c.self.view_is) ∙ c.requires.new)
 
 pub invariant_of-self : goal.invariant_of-self
 invariant_of-self c = (is_inserted c).kept
 
 pub returns-clause-marks : goal.returns-clause-marks
-returns-clause-marks c = (is_inserted c).marks ∙ ap (λ s. with_mark c.args.at c.args.mark s.marks) ((is_reached c).marks ∙ c.self.view_is)
+returns-clause-marks c = (is_inserted c).marks ∙ ap (with_mark c.args.at c.args.mark) ((is_reached c).marks ∙ ap (λ s. s.marks) c.self.view_is)
+
+pub returns-clause-labels : goal.returns-clause-labels
+returns-clause-labels c = in_order _ (is_inserted c).kept

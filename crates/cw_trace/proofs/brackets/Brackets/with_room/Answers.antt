@@ -14,6 +14,7 @@ invariant_of-result c =
     record {
       elements_room = search (rules, c.in_ok-with_capacity.ensures, room);
       marks_room = search (rules, c.in_ok-with_capacity-2.ensures, room);
+      labelled = c.in_ok-with_room.ensures.labels;
       distinct = subst (IsDistinct nat_eq) none no_elements;
       low = λ e h. absurd (cc (ap (λ xs. has xs e) none, h));
       mark_low = λ e h. absurd (cc (ap (λ xs. has xs e) none, h));

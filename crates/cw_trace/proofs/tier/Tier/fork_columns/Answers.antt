@@ -52,6 +52,7 @@ kept c =
       traces_room = omega (arith, k.traces_room, c.put_pair-4.ensures.capacity);
       outers_room = omega (arith, k.outers_room, c.put_pair-5.ensures.capacity);
       brackets_room = k.brackets_room;
+      labelled = k.labelled;
       sound = subst AreSound (sym same) sound;
     }
 

@@ -122,6 +122,7 @@ kept c =
       traces_room = k.traces_room;
       outers_room = k.outers_room;
       brackets_room = c.open_both.ensures.room ∙ k.brackets_room;
+      labelled = c.open_both.ensures.labels;
       sound = subst AreSound (sym same) sound;
     }
 

@@ -1,5 +1,4 @@
-use Rattle.std.proofs.Common.{◌≡◌, ℕ, List, Option, Some, None, [], ◌∷◌, length, sym, ap, ◌∙◌, subst, arith, rules}
-use Rattle.cw_trace.specs.declared.tier.Trace.{Trace}
+use Rattle.std.proofs.Common.{◌≡◌, Some, None, [], ◌∷◌, length, sym, ap, ◌∙◌, subst, arith, rules}
 use Rattle.cw_trace.specs.Columns.{ColumnTable, first_tier}
 use Rattle.cw_trace.specs.Tier.{AreSound}
 use Rattle.cw_trace.proofs.Sound.First.{sound_first}
@@ -37,5 +36,6 @@ invariant_of-result c =
       traces_room = traces.capacity;
       outers_room = outers.capacity;
       brackets_room = search rules;
+      labelled = c.insert-2.ensures.labels;
       sound = sound _ owners.items gaps.items parents.items traces.items (search rules) outers.items;
     }
