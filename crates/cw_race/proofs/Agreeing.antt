@@ -60,7 +60,7 @@ module _ (t : List Node) (w : IsTree t) where
       let P : ℕ → Type 0 = λ c. are_racing t c s.first s.second ≡ true in
       let Q : ℕ → Type 0 = λ c. are_racing t c r.first r.second ≡ true in
       let second : r.second ≡ s.second =
-          one_second r.second s.second (second_there r.cell r.first r.second a.racing) (b.soonest r.first r.second (subst Q cell a.racing)) (a.soonest s.first s.second (subst P (sym cell) b.racing)) in
+      one_second r.second s.second (second_there r.cell r.first r.second a.racing) (b.soonest r.first r.second (subst Q cell a.racing)) (a.soonest s.first s.second (subst P (sym cell) b.racing)) in
       cc (cell, second, same_seconds rs ss rest (λ x i. f x (inr i)) (λ x i. g x (inr i)))
 
   module _ (rs ss : List Race) (a : AreRaces t rs) (b : AreRaces t ss) where
@@ -77,9 +77,9 @@ module _ (t : List Node) (w : IsTree t) where
     agree : map later_of rs ≡ map later_of ss
     agree =
         same_seconds rs ss
-            (rises_same (map (λ (r : Race). r.cell) rs) (map (λ (r : Race). r.cell) ss) (rises_sorted (map (λ (r : Race). r.cell) rs) a.rising) (rises_sorted (map (λ (r : Race). r.cell) ss) b.rising)
-                (cell_there rs ss a b) (cell_there ss rs b a))
-            (first_of rs a) (first_of ss b)
+        (rises_same (map (λ (r : Race). r.cell) rs) (map (λ (r : Race). r.cell) ss) (rises_sorted (map (λ (r : Race). r.cell) rs) a.rising) (rises_sorted (map (λ (r : Race). r.cell) ss) b.rising)
+        (cell_there rs ss a b) (cell_there ss rs b a))
+        (first_of rs a) (first_of ss b)
 
 pub races_agree : RacesAgree
 races_agree t w rs ss a b = agree t w rs ss a b

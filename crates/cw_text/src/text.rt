@@ -9,6 +9,7 @@ use std::str;
 
 // The most bytes of a text, for `read_language` and for `read_long`.
 const MAX_LEN: usize = 1_048_576;
+
 const MAX_LONG_LEN: usize = 67_108_864;
 
 // The line of the byte at `place`: 1 plus the number of newlines before it.
