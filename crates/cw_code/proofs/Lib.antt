@@ -9,3 +9,4 @@ pub mod Expected
 pub mod KnownPlaces
 pub mod Passes
 pub mod Walk
+pub mod Walked

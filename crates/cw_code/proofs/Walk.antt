@@ -1,5 +1,5 @@
 -- What is expected at the places of a function by walking over them: what an instruction leaves is expected behind it.
-use Rattle.std.proofs.Common.{◌≡◌, ℕ, zero, suc, ◌+◌, ◌-◌, ◌<◌, ◌≤◌, ⊎_elim, Bool, true, false, List, [], Option, Some, None, pos, refl, sym, ap, ◌∙◌, subst, arith}
+use Rattle.std.proofs.Common.{◌≡◌, ℕ, suc, ◌+◌, ◌-◌, ◌<◌, ◌≤◌, ⊎_elim, Bool, true, false, List, [], Option, Some, None, pos, refl, sym, ap, ◌∙◌, subst, arith}
 use Rattle.std.specs.Prelude.{slice_get, if◌then◌else◌}
 use Rattle.std.proofs.lemmas.Bool.{cases_order, le-leb, lt-ltb}
 use Rattle.cw_code.specs.declared.situation.Part.{Part}
@@ -8,6 +8,7 @@ use Rattle.cw_code.specs.declared.instruction.Func.{Func}
 use Rattle.cw_code.specs.declared.instruction.Code.{Code}
 use Rattle.cw_code.specs.Table.{Effect}
 use Rattle.cw_code.specs.Rules.{Situation, effect_of, pops, operand_faults, at_start, passed, onwards, jumps, never_passed, natural, if_inside, target_of, inside, is_target, is_border, is_torn}
+use Rattle.cw_code.specs.Walked.{behind, walked}
 use Rattle.cw_code.proofs.Expected.{FitsAt, next_behind}
 
 -- the situation with h operands and these parts
@@ -15,26 +16,18 @@ abbrev pub at : ℕ → List Part → Situation
 at h ps = record { height = h; parts = ps }
 
 module _ (c : Code) (f : Func) where
-  abbrev behind : Option Instr → Situation → Situation
-  behind None s = s
-  behind (Some i) s = onwards c i (effect_of i) s
-
-  abbrev walked : ℕ → Situation
-  walked zero = at_start
-  walked (suc n) = behind (slice_get c.instrs (f.start + n)) (walked n)
-
   abbrev pub expected : ℕ → Situation
-  expected p = walked (p - f.start)
+  expected p = walked c f (p - f.start)
 
   pub at_first : expected f.start ≡ at_start
-  at_first = let z : f.start - f.start ≡ 0 = omega arith in ap walked z
+  at_first = let z : f.start - f.start ≡ 0 = omega arith in ap (walked c f) z
 
   pub expected_behind : (p : ℕ) (i : Instr) → f.start ≤ p → slice_get c.instrs p ≡ Some i → expected (p + 1) ≡ onwards c i (effect_of i) (expected p)
   expected_behind p i le is =
       let n = p - f.start in
       let more : p + 1 - f.start ≡ suc n = omega arith in
       let back : f.start + n ≡ p = omega arith in
-      ap walked more ∙ ap (λ q. behind (slice_get c.instrs q) (walked n)) back ∙ ap (λ o. behind o (walked n)) is
+      ap (walked c f) more ∙ ap (λ q. behind c (slice_get c.instrs q) (walked c f n)) back ∙ ap (λ o. behind c o (walked c f n)) is
 
   -- The instructions from one place up to another fit, and behind them this is expected.
   pub record Walks (p q : ℕ) (t : Situation) : Type 0 where

@@ -2,6 +2,7 @@ pub mod Table
 pub mod Mnemonics
 pub mod Rules
 pub mod Nested
+pub mod Walked
 pub mod Answers
 pub mod Printed
 pub mod Programs

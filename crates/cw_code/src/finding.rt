@@ -1,12 +1,12 @@
 ghost use Rattle.std.specs.Prelude.{◌≡◌, ℕ, ◌+◌, ◌-◌, ◌<◌, ◌≤◌, Bool, List, Option, length, slice_get, slice_index_or, Some, None, IfOk, IfSome, ◌==◌, nat_lt, nat_le, ◌&&◌, [], ◌∷◌, replicate, ◌*◌, true, ◌++◌, if◌then◌else◌};
 ghost use Rattle.cw_code.specs.Nested.{Nested, IsGrown, parts_at, situation_at, level_at, level_on_arrival, seen, IsBelow, AreBelow, give_level, none_yet};
-ghost use Rattle.cw_code.specs.Rules.{earliest, effect_of, situation_faults, uneven_faults, same, known_at, faults_here, faults_at, place_faults, offered, visit, pass, places_after_passes, begun, places, size_of, head_faults, is_laid, faults_from, faults, inside};
+ghost use Rattle.cw_code.specs.Rules.{earliest, effect_of, situation_faults, uneven_faults, same, known_at, faults_at, place_faults, offered, visit, pass, places_after_passes, begun, places, size_of, head_faults, is_laid, faults_from, faults, inside};
 
 use crate::effects::Effect;
 use crate::instruction::{Code, CodeFault, CodeKind, Func, Instr};
 use crate::nestings::Nestings;
 use crate::situation::{Arrival, Level};
-use crate::{judging, table};
+use crate::{judging, table, walking};
 use cw_base::OutOfMemory;
 use std::alloc::Global;
 
@@ -58,56 +58,6 @@ fn judge_way(
     }
 }
 
-/// Whether `place` is the last one of the function.
-fn is_last(func: &Func, place: u32) -> bool
-    requires { place < func.now.end }
-    ensures { result ≡ (place + 1 == func.now.end) }
-{
-    let end = func.end;
-    place + 1 == end
-}
-
-/// Notes in `best` what is broken at an instruction in its own situation.
-#[tactic(auto, using(crate::proofs::Fold::earliest_append))]
-fn judge_here(
-    best: Option<CodeFault>,
-    nestings: &Nestings,
-    code: &Code,
-    func: &Func,
-    place: u32,
-    instr: Instr,
-    effect: Option<Effect>,
-    level: &Level,
-) -> Option<CodeFault>
-    requires { (place < func.now.end) × (level.now.nesting < length nestings.now) }
-    ensures { result ≡ earliest best (faults_here code.now func.now place instr effect (situation_at nestings.now level.now)) }
-{
-    let best = judging::note(
-        best,
-        level.height < judging::popped(code, instr, effect) as u64,
-        CodeKind::Underflow,
-        place,
-    );
-    let best = judging::note(
-        best,
-        judging::borders(effect) && level.height != 0,
-        CodeKind::Uneven,
-        place,
-    );
-    let best = judging::note(
-        best,
-        judging::tears(nestings, effect, level),
-        CodeKind::Uneven,
-        place,
-    );
-    judging::note(
-        best,
-        !judging::is_left(effect) && is_last(func, place),
-        CodeKind::NoEnd,
-        place,
-    )
-}
-
 /// Notes in `best` what is broken at an instruction in its situation, and at the places that it leads to.
 #[tactic(auto, using(crate::proofs::Fold::earliest_append, crate::proofs::Fold::next_inside, crate::proofs::Fold::target_inside))]
 fn judge_level(
@@ -129,7 +79,7 @@ fn judge_level(
 {
     let ahead = judging::ahead(nestings, code, instr, effect, level)?;
     let away = judging::after(nestings, code, instr, effect, level)?;
-    let best = judge_here(best, nestings, code, func, place, instr, effect, level);
+    let best = judging::judge_here(best, nestings, code, func, place, instr, effect, level);
     let behind = judging::next(func, place, effect);
     let best = judge_way(best, nestings, func, places, behind, &ahead);
     let target = judging::target(func, instr, effect);
@@ -414,6 +364,9 @@ fn judge_body(
     requires { func.now.start ≤ func.now.end }
     ensures { IfOk result (λ r. r ≡ earliest best (place_faults code.now func.now (places code.now func.now) (size_of func.now))) }
 {
+    if walking::is_walked(code, func, alloc)? {
+        return Ok(best);
+    }
     let mut nestings = Nestings::new(alloc)?;
     let places = situations(&mut nestings, code, func, alloc)?;
     judge_places(best, &mut nestings, code, func, &places)

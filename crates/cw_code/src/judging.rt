@@ -1,5 +1,5 @@
-ghost use Rattle.std.specs.Prelude.{◌≡◌, ◌+◌, ◌-◌, ◌<◌, ◌^◌, length, slice_get, Some, IfOk};
-ghost use Rattle.cw_code.specs.Rules.{earlier, earliest, when, kind_number, is_number_below, cells_below, inside, is_target, is_tick, operand_faults, effect_of, called, pops, pushes, parts_after, passed, onwards, never_passed, jumps, is_border, is_torn, next_of, target_of, if_inside, natural};
+ghost use Rattle.std.specs.Prelude.{◌≡◌, ◌+◌, ◌==◌, ◌-◌, ◌<◌, ◌^◌, length, slice_get, Some, IfOk};
+ghost use Rattle.cw_code.specs.Rules.{earlier, earliest, when, kind_number, is_number_below, cells_below, inside, is_target, is_tick, operand_faults, effect_of, called, pops, pushes, parts_after, passed, onwards, never_passed, jumps, is_border, is_torn, next_of, target_of, if_inside, natural, faults_here};
 ghost use Rattle.cw_code.specs.Nested.{parts_at, situation_at, IsGrown};
 ghost use Rattle.cw_code.specs.Table.{effect_at, taken, left_there};
 
@@ -151,9 +151,22 @@ pub fn operand(
     }
 }
 
-/// How many numbers an effect takes from the stack. A call takes `params`.
-fn takes(effect: Effect, params: u32) -> u32
-    ensures { result ≡ taken effect params }
+/// How many parameters the function with the number `a` has, or 0 if there is none.
+fn params(code: &Code, a: i64) -> u32
+    ensures { result ≡ called code.now a }
+{
+    match u64::try_from(a) {
+        Ok(n) => match code.func(n) {
+            Some(func) => func.params,
+            None => 0,
+        },
+        Err(_) => 0,
+    }
+}
+
+/// How many numbers the effect of an instruction takes from the stack.
+fn takes(code: &Code, instr: Instr, effect: Effect) -> u32
+    ensures { result ≡ taken effect (called code.now instr.a) }
 {
     match effect {
         Effect::Set
@@ -165,7 +178,7 @@ fn takes(effect: Effect, params: u32) -> u32
         | Effect::Drop
         | Effect::Out => 1,
         Effect::StoreAt | Effect::Join(_) => 2,
-        Effect::Call => params,
+        Effect::Call => params(code, instr.a),
         _ => 0,
     }
 }
@@ -186,26 +199,13 @@ fn leaves(effect: Effect) -> u32
     }
 }
 
-/// How many parameters the function with the number `a` has, or 0 if there is none.
-fn params(code: &Code, a: i64) -> u32
-    ensures { result ≡ called code.now a }
-{
-    match u64::try_from(a) {
-        Ok(n) => match code.func(n) {
-            Some(func) => func.params,
-            None => 0,
-        },
-        Err(_) => 0,
-    }
-}
-
 /// How many numbers an instruction pops.
 pub fn popped(code: &Code, instr: Instr, effect: Option<Effect>) -> u32
     ensures { result ≡ pops code.now instr effect }
 {
     match effect {
         None => 0,
-        Some(e) => takes(e, params(code, instr.a)),
+        Some(e) => takes(code, instr, e),
     }
 }
 
@@ -368,4 +368,54 @@ pub fn target(func: &Func, instr: Instr, effect: Option<Effect>) -> Option<u32>
         }
         Err(_) => None,
     }
+}
+
+/// Whether `place` is the last one of the function.
+fn is_last(func: &Func, place: u32) -> bool
+    requires { place < func.now.end }
+    ensures { result ≡ (place + 1 == func.now.end) }
+{
+    let end = func.end;
+    place + 1 == end
+}
+
+/// Notes in `best` what is broken at an instruction in its own situation.
+#[tactic(auto, using(crate::proofs::Fold::earliest_append))]
+pub fn judge_here(
+    best: Option<CodeFault>,
+    nestings: &Nestings,
+    code: &Code,
+    func: &Func,
+    place: u32,
+    instr: Instr,
+    effect: Option<Effect>,
+    level: &Level,
+) -> Option<CodeFault>
+    requires { (place < func.now.end) × (level.now.nesting < length nestings.now) }
+    ensures { result ≡ earliest best (faults_here code.now func.now place instr effect (situation_at nestings.now level.now)) }
+{
+    let best = note(
+        best,
+        level.height < popped(code, instr, effect) as u64,
+        CodeKind::Underflow,
+        place,
+    );
+    let best = note(
+        best,
+        borders(effect) && level.height != 0,
+        CodeKind::Uneven,
+        place,
+    );
+    let best = note(
+        best,
+        tears(nestings, effect, level),
+        CodeKind::Uneven,
+        place,
+    );
+    note(
+        best,
+        !is_left(effect) && is_last(func, place),
+        CodeKind::NoEnd,
+        place,
+    )
 }

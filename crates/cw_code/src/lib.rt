@@ -2,8 +2,8 @@
 //! also has plain types that several layers share: run faults, limits with their ranges, cells. Use `verify` to have code
 //! checked against the rules.
 //! Contracts cite `specs/Table.antt` (instructions), `specs/Rules.antt` (the rules, as the list of what is broken),
-//! `specs/Answers.antt` (what the verifier returns), `specs/Nested.antt` (how it keeps situations),
-//! `specs/Printed.antt` (texts), `specs/Programs.antt` (programs) and `specs/Ranges.antt` (ranges and defaults of
+//! `specs/Answers.antt` (what the verifier returns), `specs/Nested.antt` (how it keeps situations), `specs/Walked.antt`
+//! (how it walks over a function), `specs/Printed.antt` (texts), `specs/Programs.antt` (programs) and `specs/Ranges.antt` (ranges and defaults of
 //! numeric options). `Worked` tries them.
 #![tactic(auto)]
 
@@ -20,6 +20,7 @@ mod ranges;
 mod situation;
 mod table;
 mod verified;
+mod walking;
 
 use cw_base::Text;
 pub use effects::{Effect, Operator};
