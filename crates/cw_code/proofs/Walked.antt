@@ -15,7 +15,7 @@ use Rattle.cw_code.specs.Table.{Effect, push, local, set, load, load_at, store, 
 use Rattle.cw_code.specs.Rules.{Situation, effect_of, pops, when, earliest, operand_faults, faults_here, passed, jumps, never_passed, if_inside, natural, target_of, size_of, places, place_faults, is_border, is_torn}
 use Rattle.cw_code.specs.Nested.{Nested, IsGrown, parts_at, situation_at}
 use Rattle.cw_code.specs.Walked.{walked, Stands, level_of, level_jumped, IsWalked, AllLead}
-use Rattle.cw_code.proofs.Fold.{earliest_append, none_found, target_inside}
+use Rattle.cw_code.proofs.Fold.{none_found, target_inside}
 use Rattle.cw_code.proofs.Sound.{when_not, not_false, nil_left, nil_right}
 use Rattle.cw_code.proofs.Seen.{situation_grown}
 use Rattle.cw_code.proofs.Expected.{Fits, FitsAt, AllFit, next_behind}
@@ -23,8 +23,12 @@ use Rattle.cw_code.proofs.Passes.{none_at_places}
 use Rattle.cw_code.proofs.Walk.{expected, at_first, expected_behind}
 
 -- where no fault was noted, there was none
-pub no_fault_here : (xs ys : List CodeFault) → earliest (earliest None xs) ys ≡ None → (xs ≡ []) × (ys ≡ [])
-no_fault_here xs ys e = let none = none_found (xs ++ ys) (earliest_append None xs ys ∙ e) in (nil_left xs ys none, nil_right xs ys none)
+pub nothing_operand : (xs : List CodeFault) → earliest None xs ≡ None → xs ≡ []
+nothing_operand xs e = none_found xs e
+
+-- what keeps each rule in its own situation has no fault there
+pub nothing_here : (c : Code) (f : Func) (p : ℕ) (i : Instr) (e : Option Effect) (s : Situation) → nat_lt s.height (pops c i e) ≡ false → (is_border e && not (s.height == 0)) ≡ false → is_torn e s ≡ false → (not (never_passed e) && (p + 1 == f.end)) ≡ false → faults_here c f p i e s ≡ []
+nothing_here c f p i e s few border torn last = rw (few, border, torn, last) refl
 
 -- ## The levels
 

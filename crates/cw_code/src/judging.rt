@@ -209,21 +209,17 @@ pub fn popped(code: &Code, instr: Instr, effect: Option<Effect>) -> u32
     }
 }
 
-/// The height of the stack after an instruction, from its height before. A height over the greatest `u64` is reported as out of memory.
-fn height_after(
-    code: &Code,
-    instr: Instr,
-    effect: Option<Effect>,
-    height: u64,
-) -> Result<u64, OutOfMemory>
-    ensures { IfOk result (λ n. n ≡ height - pops code.now instr effect + pushes effect) }
+/// The height of the stack after an instruction that pops `count` numbers, from its height before. A height over the
+/// greatest `u64` is reported as out of memory.
+pub fn height_after(effect: Option<Effect>, count: u32, height: u64) -> Result<u64, OutOfMemory>
+    ensures { IfOk result (λ n. n ≡ height - count + pushes effect) }
 {
     let pushed = match effect {
         None => 0,
         Some(e) => leaves(e),
     };
     height
-        .saturating_sub(popped(code, instr, effect) as u64)
+        .saturating_sub(count as u64)
         .checked_add(pushed as u64)
         .ok_or(OutOfMemory)
 }
@@ -260,7 +256,7 @@ pub fn after(
     ensures made { IfOk result (λ t. t.nesting < length nestings.new) }
     ensures leaves { IfOk result (λ t. situation_at nestings.new t ≡ passed code.now instr effect (situation_at nestings.old level.now)) }
 {
-    let height = height_after(code, instr, effect, level.height)?;
+    let height = height_after(effect, popped(code, instr, effect), level.height)?;
     let nesting = nesting_after(nestings, effect, level.nesting)?;
     Ok(Level { height, nesting })
 }
@@ -371,7 +367,7 @@ pub fn target(func: &Func, instr: Instr, effect: Option<Effect>) -> Option<u32>
 }
 
 /// Whether `place` is the last one of the function.
-fn is_last(func: &Func, place: u32) -> bool
+pub fn is_last(func: &Func, place: u32) -> bool
     requires { place < func.now.end }
     ensures { result ≡ (place + 1 == func.now.end) }
 {

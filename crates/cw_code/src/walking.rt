@@ -1,5 +1,5 @@
 ghost use Rattle.std.specs.Prelude.{◌≡◌, ℕ, ◌+◌, ◌-◌, ◌<◌, ◌≤◌, true, [], ◌∷◌, length, slice_get, Some, IfOk, IfSome};
-ghost use Rattle.cw_code.specs.Rules.{operand_faults, faults_here, onwards, effect_of, place_faults, places, size_of};
+ghost use Rattle.cw_code.specs.Rules.{pops, operand_faults, faults_here, onwards, effect_of, place_faults, places, size_of};
 ghost use Rattle.cw_code.specs.Nested.{situation_at, IsGrown};
 ghost use Rattle.cw_code.specs.Walked.{behind, walked, Stands, level_of, level_jumped, IsWalked, Leads, AllLead};
 
@@ -11,8 +11,8 @@ use crate::{judging, table};
 use cw_base::OutOfMemory;
 use std::alloc::Global;
 
-/// Whether the instruction at `place` breaks no rule in its situation, whatever its ways lead to.
-#[tactic(auto, using(crate::proofs::Walked::no_fault_here))]
+/// Whether an instruction that pops `count` numbers breaks no rule at `place`, whatever its ways lead to.
+#[tactic(auto, using(crate::proofs::Walked::nothing_operand, crate::proofs::Walked::nothing_here))]
 fn stands_well(
     nestings: &Nestings,
     code: &Code,
@@ -20,14 +20,50 @@ fn stands_well(
     place: u32,
     instr: Instr,
     effect: Option<Effect>,
+    count: u32,
     level: &Level,
 ) -> bool
-    requires { (place < func.now.end) × (level.now.nesting < length nestings.now) }
+    requires inside { (place < func.now.end) × (level.now.nesting < length nestings.now) }
+    requires count { count ≡ pops code.now instr effect }
     ensures operands { result ≡ true → operand_faults code.now func.now place instr effect ≡ [] }
     ensures here { result ≡ true → faults_here code.now func.now place instr effect (situation_at nestings.now level.now) ≡ [] }
 {
-    let best = judging::operand(None, code, func, place, instr, effect);
-    judging::judge_here(best, nestings, code, func, place, instr, effect, level).is_none()
+    let few = level.height < count as u64;
+    let border = judging::borders(effect) && level.height != 0;
+    let torn = judging::tears(nestings, effect, level);
+    let last = !judging::is_left(effect) && judging::is_last(func, place);
+    if few || border || torn || last {
+        return false;
+    }
+    judging::operand(None, code, func, place, instr, effect).is_none()
+}
+
+/// The level behind an instruction that pops `count` numbers.
+fn level_behind(
+    nestings: &mut Nestings,
+    code: &Code,
+    instr: Instr,
+    effect: Option<Effect>,
+    count: u32,
+    level: &Level,
+) -> Result<Level, OutOfMemory>
+    requires inside { level.now.nesting < length nestings.old }
+    requires count { count ≡ pops code.now instr effect }
+    ensures grown { IsGrown nestings.old nestings.new }
+    ensures made { IfOk result (λ t. t.nesting < length nestings.new) }
+    ensures leaves { IfOk result (λ t. situation_at nestings.new t ≡ onwards code.now instr effect (situation_at nestings.old level.now)) }
+{
+    match effect {
+        Some(Effect::Begin) | Some(Effect::End) | Some(Effect::Fork) | Some(Effect::Done) =>
+            judging::ahead(nestings, code, instr, effect, level),
+        _ => {
+            let height = judging::height_after(effect, count, level.height)?;
+            Ok(Level {
+                height,
+                nesting: level.nesting,
+            })
+        }
+    }
 }
 
 /// Returns the level behind the instruction at `place`, or `None` if no instruction stands there well.
@@ -49,10 +85,11 @@ fn step(
         Some(instr) => instr,
     };
     let effect = table::effect_at(instr.op);
-    if !stands_well(nestings, code, func, place, instr, effect, level) {
+    let count = judging::popped(code, instr, effect);
+    if !stands_well(nestings, code, func, place, instr, effect, count, level) {
         return Ok(None);
     }
-    let next = judging::ahead(nestings, code, instr, effect, level)?;
+    let next = level_behind(nestings, code, instr, effect, count, level)?;
     Ok(Some(next))
 }
 
