@@ -7,4 +7,5 @@ pub mod Answers
 pub mod Printed
 pub mod Programs
 pub mod Ranges
+pub mod FaultNames
 pub mod Worked

@@ -3,13 +3,14 @@
 //! checked against the rules.
 //! Contracts cite `specs/Table.antt` (instructions), `specs/Rules.antt` (the rules, as the list of what is broken),
 //! `specs/Answers.antt` (what the verifier returns), `specs/Nested.antt` (how it keeps situations), `specs/Walked.antt`
-//! (how it walks over a function), `specs/Printed.antt` (texts), `specs/Programs.antt` (programs) and `specs/Ranges.antt` (ranges and defaults of
-//! numeric options). `Worked` tries them.
+//! (how it walks over a function), `specs/Printed.antt` (texts), `specs/Programs.antt` (programs), `specs/Ranges.antt`
+//! (ranges and defaults of numeric options) and `specs/FaultNames.antt` (names of run faults). `Worked` tries them.
 #![tactic(auto)]
 
 ghost use Rattle.cw_code.specs.Worked.{Verdicts, Texts};
 
 mod effects;
+mod fault_names;
 mod finding;
 mod instruction;
 mod judging;
@@ -24,6 +25,7 @@ mod walking;
 
 use cw_base::Text;
 pub use effects::{Effect, Operator};
+pub use fault_names::fault_name;
 pub use instruction::{Code, CodeFault, CodeKind, Func, Instr};
 pub use print::print_code;
 pub use program::Program;

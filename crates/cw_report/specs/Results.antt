@@ -2,9 +2,8 @@
 use Rattle.std.specs.Prelude.{ℕ, zero, suc, ◌+◌, ℤ, List, [], ◌∷◌, ◌++◌, codes}
 use Rattle.std.specs.List.{flat_map, range_with_len}
 use Rattle.std.specs.Fmt.{decimal, signed_decimal}
-use Rattle.cw_code.specs.declared.FaultKind.{FaultKind}
-use Rattle.cw_code.specs.declared.FaultKind.TheVariants as fault
 use Rattle.cw_code.specs.declared.CellInfo.{CellInfo}
+use Rattle.cw_code.specs.FaultNames.{fault_name}
 use Rattle.cw_record.specs.declared.record_end.RecordEnd.{RecordEnd}
 use Rattle.cw_record.specs.declared.record_end.RecordEnd.TheVariants.{Finished, Fault, Budget, Moves}
 use Rattle.cw_record.specs.declared.record.Record.{Record}
@@ -14,14 +13,6 @@ use Rattle.cw_tree.specs.Names.{name_of, name_text}
 
 abbrev pub line : List ℕ → List ℕ
 line text = text ++ 10 ∷ []
-
-abbrev pub fault_name : FaultKind → List ℕ
-fault_name fault.Zero = codes "Zero"
-fault_name fault.Overflow = codes "Overflow"
-fault_name fault.Range = codes "Range"
-fault_name fault.Depth = codes "Depth"
-fault_name fault.Fuel = codes "Fuel"
-fault_name fault.Size = codes "Size"
 
 abbrev pub output_line : ℤ → List ℕ
 output_line v = line (codes "out " ++ signed_decimal v)

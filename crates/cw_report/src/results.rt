@@ -1,29 +1,17 @@
 ghost use Rattle.std.specs.Prelude.{◌≡◌, ◌++◌, codes, IfOk, IsTrue, OnOk, string_bytes};
 ghost use Rattle.std.specs.List.{flat_map};
+ghost use Rattle.cw_code.specs.FaultNames.{fault_name};
 ghost use Rattle.cw_tree.specs.Nodes.{is_strand};
 ghost use Rattle.cw_record.specs.Order.{ending_strand};
-ghost use Rattle.cw_report.specs.Results.{cell_lines, element_line, end_text, fault_name, finished_text, line, output_line, plain_line, run_text, strand_text};
+ghost use Rattle.cw_report.specs.Results.{cell_lines, element_line, end_text, finished_text, line, output_line, plain_line, run_text, strand_text};
 
 use cw_base::OutOfMemory;
-use cw_code::{CellInfo, FaultKind};
+use cw_code::{CellInfo, FaultKind, fault_name};
 use cw_job::value_at;
 use cw_record::{Record, RecordEnd};
 use cw_tree::Tree;
 use std::alloc::Global;
 use std::fmt::Write;
-
-fn fault_name(kind: FaultKind) -> &'static str
-    ensures { result.now ≡ fault_name kind }
-{
-    match kind {
-        FaultKind::Zero => "Zero",
-        FaultKind::Overflow => "Overflow",
-        FaultKind::Range => "Range",
-        FaultKind::Depth => "Depth",
-        FaultKind::Fuel => "Fuel",
-        FaultKind::Size => "Size",
-    }
-}
 
 fn push_output(text: &mut String, value: i64) -> Result<(), OutOfMemory>
     ensures { OnOk result (string_bytes text.new ≡ string_bytes text.old ++ output_line value) }
