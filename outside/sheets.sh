@@ -323,9 +323,9 @@ with_source() {
   } > sheet
 }
 with_source 1048576 131061 7
-written_back 'as many bytes as a source may have'
+written_back 'as many bytes as a program may have that is run'
 with_source 1048577 131060 8
-refused 'a source of one byte more' 2 BadSource
+written_back 'a source of one byte more'
 
 # ## Memory
 

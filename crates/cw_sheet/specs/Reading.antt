@@ -14,6 +14,7 @@ use Rattle.cw_code.specs.declared.Back.{Back}
 use Rattle.cw_code.specs.declared.FaultKind.{FaultKind}
 use Rattle.cw_code.specs.declared.FaultKind.TheVariants as fault
 use Rattle.cw_code.specs.declared.Limits.{Limits}
+use Rattle.cw_code.specs.FaultNames.{fault_name}
 use Rattle.cw_strand.specs.Names.{naming_fault}
 use Rattle.cw_tree.specs.declared.conflict.Conflict.{Conflict}
 use Rattle.cw_tree.specs.declared.node.Node.{Node}
@@ -28,7 +29,7 @@ use Rattle.cw_record.specs.declared.record_end.RecordEnd.TheVariants.{Finished, 
 use Rattle.cw_sheet.specs.declared.sheet.SheetKind.TheVariants.{NotUtf8, TooLong, Unexpected, BadTree, BadSource}
 use Rattle.cw_sheet.specs.declared.sheet.SheetFault.{SheetFault}
 use Rattle.cw_sheet.specs.Contents.{Contents}
-use Rattle.cw_sheet.specs.SheetText.{fault_word, state_word}
+use Rattle.cw_sheet.specs.SheetText.{state_word}
 use Rattle.cw_sheet.specs.Items.{Place, Taken, took, refused, ◌into◌, refuse, is_newline, item, newline, word, line_done, first_number32, next_item, next_word, number32, number64, value, count, all_behind, exactly}
 
 -- ## Program, words and limits
@@ -54,7 +55,7 @@ behind_lines n p = record { line = newlines (take n p.text) + p.line; text = dro
 
 -- the most bytes of a source
 abbrev pub longest_source : ℕ
-longest_source = 1048576
+longest_source = 67108864
 
 -- The source has n bytes. A fault of the source is on the line before it. If the text is shorter, its end is Unexpected.
 abbrev pub source_of_length : ℕ → (line : ℕ) → Place → Taken Source
@@ -160,7 +161,7 @@ finished p = values (codes "memory") p into λ memory p. values (codes "outputs"
 -- the fault kind that a word names
 abbrev pub fault_named : List ℕ → List FaultKind → Option FaultKind
 fault_named w [] = None
-fault_named w (k ∷ ks) = if bytes_eq w (fault_word k) then Some k else fault_named w ks
+fault_named w (k ∷ ks) = if bytes_eq w (fault_name k) then Some k else fault_named w ks
 
 abbrev pub fault_kinds : List FaultKind
 fault_kinds = fault.Zero ∷ fault.Overflow ∷ fault.Range ∷ fault.Depth ∷ fault.Fuel ∷ fault.Size ∷ []

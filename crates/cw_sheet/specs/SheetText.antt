@@ -21,8 +21,8 @@ use Rattle.std.specs.List.{flat_map}
 use Rattle.cw_text.specs.PrintedText.{printed_text}
 use Rattle.cw_code.specs.declared.Back.{Back}
 use Rattle.cw_code.specs.declared.FaultKind.{FaultKind}
-use Rattle.cw_code.specs.declared.FaultKind.TheVariants as fault
 use Rattle.cw_code.specs.declared.Limits.{Limits}
+use Rattle.cw_code.specs.FaultNames.{fault_name}
 use Rattle.cw_tree.specs.declared.conflict.Conflict.{Conflict}
 use Rattle.cw_tree.specs.declared.node.Node.{Node}
 use Rattle.cw_tree.specs.declared.node.Kind.{Kind}
@@ -123,19 +123,11 @@ conflicts_part ks = line (codes "conflicts") (decimals (length ks ∷ [])) ++ fl
 
 -- ## The end
 
-abbrev pub fault_word : FaultKind → List ℕ
-fault_word fault.Zero = codes "Zero"
-fault_word fault.Overflow = codes "Overflow"
-fault_word fault.Range = codes "Range"
-fault_word fault.Depth = codes "Depth"
-fault_word fault.Fuel = codes "Fuel"
-fault_word fault.Size = codes "Size"
-
 abbrev pub finished_part : (memory outputs : List ℤ) → List ℕ
 finished_part memory outputs = line (codes "finished") [] ++ line (codes "memory") (signed_decimals memory) ++ line (codes "outputs") (signed_decimals outputs)
 
 abbrev pub fault_line : (strand : ℕ) → FaultKind → List ℕ
-fault_line strand kind = line (codes "fault") (decimal strand ∷ fault_word kind ∷ [])
+fault_line strand kind = line (codes "fault") (decimal strand ∷ fault_name kind ∷ [])
 
 abbrev pub budget_line : (strand : ℕ) → List ℕ
 budget_line strand = line (codes "budget") (decimal strand ∷ [])

@@ -6,10 +6,9 @@ ghost use Rattle.cw_sheet.specs.Taking.{LeadsTo, Takes, conflict_of, fault_end, 
 
 use crate::cursor::Cursor;
 use crate::lines::{numbers_behind, values};
-use crate::parts::fault_word;
 use crate::{SheetFault, SheetKind, SheetRefusal};
 use cw_base::Seq;
-use cw_code::FaultKind;
+use cw_code::{FaultKind, fault_name};
 use cw_record::RecordEnd;
 use cw_tree::Conflict;
 use std::alloc::Global;
@@ -40,7 +39,7 @@ fn fault_named(word: &[u8], kinds: &[FaultKind]) -> Option<FaultKind>
     ensures { result ≡ fault_named word.now kinds.now }
 {
     for kind in kinds {
-        if word == fault_word(*kind).as_bytes() {
+        if word == fault_name(*kind).as_bytes() {
             return Some(*kind);
         }
     }

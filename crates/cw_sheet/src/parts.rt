@@ -1,10 +1,10 @@
 ghost use Rattle.std.specs.Prelude.{◌≡◌, ◌++◌, ◌∷◌, [], length, OnOk, string_bytes};
 ghost use Rattle.std.specs.Fmt.{decimal};
 ghost use Rattle.std.specs.List.{flat_map};
-ghost use Rattle.cw_sheet.specs.SheetText.{budget_line, conflict_line, conflicts_part, decimals, end_part, fault_line, fault_word, finished_part, limits_line, line, moves_line, signed_decimals, spaced};
+ghost use Rattle.cw_sheet.specs.SheetText.{budget_line, conflict_line, conflicts_part, decimals, end_part, fault_line, finished_part, limits_line, line, moves_line, signed_decimals, spaced};
 
 use cw_base::OutOfMemory;
-use cw_code::{FaultKind, Limits};
+use cw_code::{FaultKind, Limits, fault_name};
 use cw_record::RecordEnd;
 use cw_tree::Conflict;
 use std::fmt::Write;
@@ -102,19 +102,6 @@ pub(crate) fn push_conflicts(text: &mut String, conflicts: &[Conflict]) -> Resul
     push_each_conflict(text, conflicts)
 }
 
-pub(crate) fn fault_word(kind: FaultKind) -> &'static str
-    ensures { result.now ≡ fault_word kind }
-{
-    match kind {
-        FaultKind::Zero => "Zero",
-        FaultKind::Overflow => "Overflow",
-        FaultKind::Range => "Range",
-        FaultKind::Depth => "Depth",
-        FaultKind::Fuel => "Fuel",
-        FaultKind::Size => "Size",
-    }
-}
-
 // Writes the end of a finished run: its memory and its outputs.
 fn push_finished(text: &mut String, memory: &[i64], outputs: &[i64]) -> Result<(), OutOfMemory>
     ensures { OnOk result (string_bytes text.new ≡ string_bytes text.old ++ finished_part memory.now outputs.now) }
@@ -127,7 +114,7 @@ fn push_finished(text: &mut String, memory: &[i64], outputs: &[i64]) -> Result<(
 fn push_fault(text: &mut String, strand: u32, kind: FaultKind) -> Result<(), OutOfMemory>
     ensures { OnOk result (string_bytes text.new ≡ string_bytes text.old ++ fault_line strand kind) }
 {
-    let kind = fault_word(kind);
+    let kind = fault_name(kind);
     writeln!(text, "fault {strand} {kind}")?;
     Ok(())
 }

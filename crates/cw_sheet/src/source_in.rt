@@ -10,7 +10,7 @@ use crate::cursor::Cursor;
 use crate::{SheetFault, SheetKind, SheetRefusal};
 use cw_base::OutOfMemory;
 use cw_compile::{NameRefusal, compile};
-use cw_text::{Ast, TextRefusal, print_program, read_language};
+use cw_text::{Ast, TextRefusal, print_program, read_long};
 use std::alloc::Global;
 
 // Whether no name of the program is at fault.
@@ -46,7 +46,7 @@ fn canonical(alloc: Global, bytes: &[u8], line: u32) -> Result<Ast, SheetRefusal
         kind: SheetKind::BadSource,
         line,
     });
-    match read_language(alloc, bytes, 2) {
+    match read_long(alloc, bytes) {
         Ok(ast) => {
             if is_canonical(alloc, &ast, bytes)? {
                 return Ok(ast);

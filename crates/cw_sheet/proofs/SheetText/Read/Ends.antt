@@ -5,6 +5,7 @@ use Rattle.std.specs.Fmt.{decimal}
 use Rattle.std.specs.List.{AllByRecursion, flat_map}
 use Rattle.cw_code.specs.declared.FaultKind.{FaultKind}
 use Rattle.cw_code.specs.declared.FaultKind.TheVariants as fault
+use Rattle.cw_code.specs.FaultNames.{fault_name}
 use Rattle.cw_tree.specs.declared.conflict.Conflict.{Conflict}
 use Rattle.cw_tree.specs.declared.node.Node.{Node}
 use Rattle.cw_record.specs.declared.record_end.RecordEnd.{RecordEnd}
@@ -12,7 +13,7 @@ use Rattle.cw_record.specs.declared.record_end.RecordEnd.TheVariants.{Finished, 
 use Rattle.cw_sheet.specs.Items.{Place, Taken, ◌into◌, count, exactly, line_done, next_item, number64}
 use Rattle.cw_sheet.specs.Laws.{ConflictFits, EndFits, Fits64, IsCountable, IsValue}
 use Rattle.cw_sheet.specs.Reading.{conflict_row, conflicts, fault_kinds, fault_named, named_fault, node, nodes, run_end}
-use Rattle.cw_sheet.specs.SheetText.{conflict_line, conflicts_part, decimals, end_part, fault_word, line, node_line, nodes_part, signed_decimals}
+use Rattle.cw_sheet.specs.SheetText.{conflict_line, conflicts_part, decimals, end_part, line, node_line, nodes_part, signed_decimals}
 use Rattle.cw_sheet.proofs.SheetText.Told.Items.{AllFrom}
 use Rattle.cw_sheet.proofs.SheetText.Read.Items.{all_behind_takes, exactly_takes, first_number_takes, number_takes}
 use Rattle.cw_sheet.proofs.SheetText.Read.Lines.{number32_takes, number64_takes, values_takes}
@@ -75,7 +76,7 @@ conflicts_take xs l rest few all =
 -- ## The end
 
 fault_takes : (s : ℕ) (k : FaultKind) (l : ℕ) (rest : List ℕ) →
-    Takes (next_item (on_line l ((32 ∷ fault_word k) ++ (10 ∷ rest))) into λ i p. named_fault (fault_named i fault_kinds) s p) (Fault s k) rest
+    Takes (next_item (on_line l ((32 ∷ fault_name k) ++ (10 ∷ rest))) into λ i p. named_fault (fault_named i fault_kinds) s p) (Fault s k) rest
 fault_takes s fault.Zero l rest = record { line = suc l; is = refl }
 fault_takes s fault.Overflow l rest = record { line = suc l; is = refl }
 fault_takes s fault.Range l rest = record { line = suc l; is = refl }
@@ -100,8 +101,8 @@ finished_takes memory outputs l rest small few =
 pub end_takes : (e : RecordEnd) (l : ℕ) (rest : List ℕ) → EndFits e → Takes (run_end (on_line l (end_part e ++ rest))) e rest
 end_takes (Finished memory outputs) l rest fit = finished_takes memory outputs l rest fit.0 fit.1
 end_takes (Fault s k) l rest fit =
-    line_takes run_end (codes "fault") (decimal s ∷ fault_word k ∷ []) l rest
-    (then_takes _ _ (number32_takes s l ((32 ∷ fault_word k) ++ (10 ∷ rest)) fit refl) (λ l1. fault_takes s k l1 rest))
+    line_takes run_end (codes "fault") (decimal s ∷ fault_name k ∷ []) l rest
+    (then_takes _ _ (number32_takes s l ((32 ∷ fault_name k) ++ (10 ∷ rest)) fit refl) (λ l1. fault_takes s k l1 rest))
 end_takes (Budget s) l rest fit =
     line_takes run_end (codes "budget") (decimal s ∷ []) l rest
     (then_takes _ _ (number32_takes s l (10 ∷ rest) fit refl) (λ l1. record { line = suc l1; is = refl }))

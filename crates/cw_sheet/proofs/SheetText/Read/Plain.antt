@@ -16,6 +16,7 @@ use Rattle.cw_code.specs.declared.Back.{Back}
 use Rattle.cw_code.specs.declared.Limits.{Limits}
 use Rattle.cw_code.specs.declared.FaultKind.{FaultKind}
 use Rattle.cw_code.specs.declared.FaultKind.TheVariants as fault
+use Rattle.cw_code.specs.FaultNames.{fault_name}
 use Rattle.cw_tree.specs.declared.conflict.Conflict.{Conflict}
 use Rattle.cw_tree.specs.declared.node.Node.{Node}
 use Rattle.cw_tree.specs.declared.node.Kind.{Kind}
@@ -26,7 +27,7 @@ use Rattle.cw_record.specs.declared.record_end.RecordEnd.{RecordEnd}
 use Rattle.cw_record.specs.declared.record_end.RecordEnd.TheVariants.{Finished, Fault, Budget, Moves}
 use Rattle.cw_sheet.specs.Contents.{Contents, HasSourceText}
 use Rattle.cw_sheet.specs.Laws.{BackFits, ConflictFits, EndFits, Fits64, IsInRange, IsValue, KindFits, LimitsFit, NodeFits}
-use Rattle.cw_sheet.specs.SheetText.{after_source, back_items, before_source, conflict_line, conflicts_part, decimals, end_part, fault_word, kind_line, last_line, limits_line, line, node_line, nodes_part, sheet_text, signed_decimals, spaced, state_word, words_line}
+use Rattle.cw_sheet.specs.SheetText.{after_source, back_items, before_source, conflict_line, conflicts_part, decimals, end_part, kind_line, last_line, limits_line, line, node_line, nodes_part, sheet_text, signed_decimals, spaced, state_word, words_line}
 
 -- ## Whole characters
 
@@ -144,7 +145,7 @@ conflict_ascii x h =
       ),
     )
 
-kind_word_ascii : (k : FaultKind) → IsAscii (fault_word k)
+kind_word_ascii : (k : FaultKind) → IsAscii (fault_name k)
 kind_word_ascii fault.Zero = letters (codes "Zero") refl
 kind_word_ascii fault.Overflow = letters (codes "Overflow") refl
 kind_word_ascii fault.Range = letters (codes "Range") refl
@@ -161,7 +162,7 @@ end_ascii (Finished memory outputs) h =
     (IsAscii-append f m (letters f refl)
     (line_ascii (codes "memory") (signed_decimals memory) (letters (codes "memory") refl) (values_ascii memory (recursion_from_All IsValue memory h.0))))
     (line_ascii (codes "outputs") (signed_decimals outputs) (letters (codes "outputs") refl) (values_ascii outputs (recursion_from_All IsValue outputs h.1)))
-end_ascii (Fault s k) h = line_ascii (codes "fault") (decimal s ∷ fault_word k ∷ []) (letters (codes "fault") refl) (number32_ascii s h, (kind_word_ascii k, tt))
+end_ascii (Fault s k) h = line_ascii (codes "fault") (decimal s ∷ fault_name k ∷ []) (letters (codes "fault") refl) (number32_ascii s h, (kind_word_ascii k, tt))
 end_ascii (Budget s) h = line_ascii (codes "budget") (decimal s ∷ []) (letters (codes "budget") refl) (number32_ascii s h, tt)
 end_ascii Moves h = letters (line (codes "moves") []) refl
 

@@ -7,13 +7,14 @@ use Rattle.std.specs.Fmt.{decimal}
 use Rattle.std.specs.List.{AllByRecursion, flat_map}
 use Rattle.std.specs.Str.{bytes_eq}
 use Rattle.cw_code.specs.declared.FaultKind.{FaultKind}
+use Rattle.cw_code.specs.FaultNames.{fault_name}
 use Rattle.cw_tree.specs.declared.conflict.Conflict.{Conflict}
 use Rattle.cw_record.specs.declared.record_end.RecordEnd.TheVariants.{Fault, Budget, Moves}
 use Rattle.cw_sheet.specs.declared.sheet.SheetKind.TheVariants.{Unexpected}
 use Rattle.cw_sheet.specs.Items.{Place, Taken, took, ◌into◌, all_behind, behind, count, exactly, first_item, first_number32, line_done, newline, next_item, next_word, number32, number64, refuse, word}
 use Rattle.cw_sheet.specs.Laws.{ConflictFits, EndFits, Fits32, Fits64, IsCountable, IsValue}
 use Rattle.cw_sheet.specs.Reading.{conflict_row, conflicts, end_named, fault_kinds, fault_named, finished, last, named_fault, node, nodes, run_end, values}
-use Rattle.cw_sheet.specs.SheetText.{conflict_line, conflicts_part, decimals, end_part, fault_line, fault_word, last_line, line, node_line, nodes_part, signed_decimals}
+use Rattle.cw_sheet.specs.SheetText.{conflict_line, conflicts_part, decimals, end_part, fault_line, last_line, line, node_line, nodes_part, signed_decimals}
 use Rattle.cw_sheet.proofs.SheetText.Beginning.{BeginsWith, item, line_of, none, one_more, same_part, some, spaced_map}
 use Rattle.cw_sheet.proofs.SheetText.Told.Items.{AllFrom, done_then, exactly_told, first_number_told, item_told, line_done_told, newline_told, next_item_told, next_word_told, number_told, up_to_told, word_told}
 use Rattle.cw_sheet.proofs.SheetText.Told.Lines.{values_told}
@@ -81,15 +82,15 @@ finished_told text p h =
     )))
 
 -- the kind that a word names
-named_so : (w : List ℕ) (ks : List FaultKind) (k : FaultKind) → fault_named w ks ≡ Some k → w ≡ fault_word k
+named_so : (w : List ℕ) (ks : List FaultKind) (k : FaultKind) → fault_named w ks ≡ Some k → w ≡ fault_name k
 named_so w [] k e = cc
 named_so w (x ∷ xs) k e =
-    cond_both (bytes_eq w (fault_word x)) (Some x) (fault_named w xs) (λ o. o ≡ Some k → w ≡ fault_word k)
-    (λ same h. let one : x ≡ k = cc in (bytes_decides w (fault_word x)).0 same ∙ ap fault_word one)
+    cond_both (bytes_eq w (fault_name x)) (Some x) (fault_named w xs) (λ o. o ≡ Some k → w ≡ fault_name k)
+    (λ same h. let one : x ≡ k = cc in (bytes_decides w (fault_name x)).0 same ∙ ap fault_name one)
     (λ _ h. named_so w xs k h) e
 
-named_fault_told : (text i : List ℕ) (s : ℕ) (p : Place) (o : Option FaultKind) → ((k : FaultKind) → o ≡ Some k → i ≡ fault_word k) →
-    ((k : FaultKind) (q : Place) → i ≡ fault_word k → BeginsWith p.text (10 ∷ []) q.text → BeginsWith text (fault_line s k) q.text × Fits32 s) →
+named_fault_told : (text i : List ℕ) (s : ℕ) (p : Place) (o : Option FaultKind) → ((k : FaultKind) → o ≡ Some k → i ≡ fault_name k) →
+    ((k : FaultKind) (q : Place) → i ≡ fault_name k → BeginsWith p.text (10 ∷ []) q.text → BeginsWith text (fault_line s k) q.text × Fits32 s) →
     IfTook (λ e q. BeginsWith text (end_part e) q.text × EndFits e) (named_fault o s p)
 named_fault_told text i s p None is told = tt
 named_fault_told text i s p (Some k) is told = line_done_told _ (Fault s k) p (λ q f. told k q (is k refl) f)
@@ -100,7 +101,7 @@ fault_told text p h =
     took_then _ _ (number32 p) _ (number_told (2 ^ 32) p)
     (λ s p1 h1. took_then _ _ (next_item p1) _ (next_item_told p1)
     (λ i p2 h2. named_fault_told text i s p2 (fault_named i fault_kinds) (λ k e. named_so i fault_kinds k e)
-    (λ k q same f. (line_of (codes "fault") (decimal s ∷ fault_word k ∷ []) h (item h1.0 (item (same_part (32 ∷ fault_word k) (ap (λ j. 32 ∷ j) same) h2) none)) f, h1.1))))
+    (λ k q same f. (line_of (codes "fault") (decimal s ∷ fault_name k ∷ []) h (item h1.0 (item (same_part (32 ∷ fault_name k) (ap (λ j. 32 ∷ j) same) h2) none)) f, h1.1))))
 
 end_told : (text w : List ℕ) (p : Place) → BeginsWith text w p.text → IfTook (λ e q. BeginsWith text (end_part e) q.text × EndFits e) (end_named w p)
 end_told text w p h =
