@@ -7,9 +7,10 @@ use crate::{Ast, TextKind, TextRefusal};
 use std::alloc::Global;
 use std::str;
 
-// The most bytes of a text, for `read_language` and for `read_long`.
+// The most bytes of a text that `read_language` reads.
 const MAX_LEN: usize = 1_048_576;
 
+// The most bytes of a text that `read_long` reads.
 const MAX_LONG_LEN: usize = 67_108_864;
 
 // The line of the byte at `place`: 1 plus the number of newlines before it.
