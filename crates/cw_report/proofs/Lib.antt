@@ -1,2 +1,3 @@
+mod Cancels
 mod Counted
 mod Lookups

@@ -1,13 +1,16 @@
--- The report on a run: the numbers of strands and blocks in its tree, and each refused access. Every line ends with a newline.
-use Rattle.std.specs.Prelude.{ℕ, zero, suc, ◌&&◌, ◌||◌, Bool, not, nat_lt, List, [], ◌∷◌, ◌++◌, count_by, length, map, codes, slice_get, Option, Some, None, option_map, unwrap_or, if◌then◌else◌}
-use Rattle.std.specs.List.{flat_map, range_with_len}
+-- The report on a run, in its two versions: the numbers of strands and blocks in its tree, and each refused access. Report 2 also
+-- says how many of the committed blocks were cancelled. Every line ends with a newline.
+use Rattle.std.specs.Prelude.{◌≡◌, ◌⊎◌, ℕ, zero, suc, ◌==◌, ◌&&◌, ◌||◌, Bool, true, false, not, nat_lt, List, [], ◌∷◌, ◌++◌, count_by, length, map, codes, slice_get, Option, Some, None, option_map, unwrap_or, if◌then◌else◌}
+use Rattle.std.specs.List.{flat_map, list_any, range_with_len}
 use Rattle.std.specs.Fmt.{decimal}
 use Rattle.cw_code.specs.declared.CellInfo.{CellInfo}
 use Rattle.cw_tree.specs.declared.conflict.Conflict.{Conflict}
+use Rattle.cw_tree.specs.declared.node.Kind.{Kind}
+use Rattle.cw_tree.specs.declared.node.Kind.TheVariants.{Cancel}
 use Rattle.cw_tree.specs.declared.node.Node.{Node}
-use Rattle.cw_tree.specs.Nodes.{all_nodes, is_aborted, is_committed, is_strand, with_stamp}
+use Rattle.cw_tree.specs.Nodes.{all_nodes, is_aborted, is_committed, is_node, is_strand, with_stamp}
 use Rattle.cw_tree.specs.Accesses.{is_live}
-use Rattle.cw_tree.specs.Series.{strand_of}
+use Rattle.cw_tree.specs.Series.{children, strand_of}
 use Rattle.cw_record.specs.declared.record.Record.{Record}
 use Rattle.cw_report.specs.Results.{line, strand_text}
 
@@ -24,6 +27,21 @@ stands_committed t n = is_committed t n && is_live t n
 -- any other closed block
 abbrev pub is_undone : List Node → ℕ → Bool
 is_undone t n = is_aborted t n || (is_committed t n && not (is_live t n))
+
+abbrev pub is_cancel_kind : Kind → Bool
+is_cancel_kind (Cancel back) = true
+is_cancel_kind _ = false
+
+abbrev pub is_cancel : List Node → ℕ → Bool
+is_cancel = is_node (λ x. is_cancel_kind x.kind)
+
+-- a child of node n is a cancel; one in a block within n is not a child of n
+abbrev pub has_cancel : List Node → ℕ → Bool
+has_cancel t n = list_any (is_cancel t) (children t n)
+
+-- a committed block with no aborted block above it, and with a cancel of its own
+abbrev pub stands_cancelled : List Node → ℕ → Bool
+stands_cancelled t n = stands_committed t n && has_cancel t n
 
 -- ## What is named
 
@@ -82,17 +100,27 @@ blocks_text k = codes " block " ++ decimal k.block ++ codes " victim " ++ victim
 abbrev pub conflict_line : List CellInfo → List Node → Conflict → List ℕ
 conflict_line cells t k = line (codes "conflict " ++ accesses_text cells t k ++ blocks_text k)
 
+-- what report 2 adds to the line of the blocks
+abbrev pub cancelled_text : (version cancelled : ℕ) → List ℕ
+cancelled_text version cancelled = if version == 2 then codes " cancelled " ++ decimal cancelled else []
+
 -- the lines before the conflicts, with these numbers
-abbrev pub counted_text : (strands committed undone conflicts : ℕ) → List ℕ
-counted_text strands committed undone conflicts =
-    line (codes "report 1")
+abbrev pub counted_text : (version strands committed undone cancelled conflicts : ℕ) → List ℕ
+counted_text version strands committed undone cancelled conflicts =
+    line (codes "report " ++ decimal version)
     ++ line (codes "strands " ++ decimal strands)
-    ++ line (codes "blocks " ++ decimal committed ++ codes " " ++ decimal undone)
+    ++ line (codes "blocks " ++ decimal committed ++ codes " " ++ decimal undone ++ cancelled_text version cancelled)
     ++ line (codes "conflicts " ++ decimal conflicts)
 
-abbrev pub counts_text : List Node → (conflicts : ℕ) → List ℕ
-counts_text t conflicts = counted_text (count_nodes is_strand t) (count_nodes stands_committed t) (count_nodes is_undone t) conflicts
+abbrev pub counts_text : (version : ℕ) → List Node → (conflicts : ℕ) → List ℕ
+counts_text version t conflicts =
+    counted_text version (count_nodes is_strand t) (count_nodes stands_committed t) (count_nodes is_undone t) (count_nodes stands_cancelled t) conflicts
+
+-- a version of the report
+abbrev pub IsVersion : ℕ → Type 0
+IsVersion version = (version ≡ 1) ⊎ (version ≡ 2)
 
 -- the report on a run
-abbrev pub report_text : Record → List ℕ
-report_text r = counts_text r.tree (length r.conflicts) ++ flat_map (conflict_line r.program.cells r.tree) r.conflicts ++ line (codes "end report")
+abbrev pub report_text : Record → (version : ℕ) → List ℕ
+report_text r version =
+    counts_text version r.tree (length r.conflicts) ++ flat_map (conflict_line r.program.cells r.tree) r.conflicts ++ line (codes "end report")

@@ -2,10 +2,10 @@ ghost use Rattle.std.specs.Prelude.{◌≡◌, ◌<◌, length, map, IfOk};
 ghost use Rattle.cw_tree.specs.Accesses.{is_live};
 ghost use Rattle.cw_tree.specs.ForkCounts.{one_if};
 ghost use Rattle.cw_tree.specs.Nodes.{all_nodes, below, is_committed, is_strand};
-ghost use Rattle.cw_report.specs.Report.{count_nodes, is_undone, stands_committed};
+ghost use Rattle.cw_report.specs.Report.{count_nodes, has_cancel, is_cancel, is_undone, stands_cancelled, stands_committed};
 
 use cw_base::OutOfMemory;
-use cw_tree::{BlockState, Tree};
+use cw_tree::{BlockState, Kind, Tree};
 use std::alloc::Global;
 
 /// The numbers of strands and closed blocks in a tree.
@@ -16,6 +16,8 @@ pub(crate) struct Counts {
     pub(crate) committed: u32,
     /// All other closed blocks.
     pub(crate) undone: u32,
+    /// Those of the committed ones that have a cancel of their own.
+    pub(crate) cancelled: u32,
 }
 
 impl Counts {
@@ -23,18 +25,23 @@ impl Counts {
         ensures strands { IfOk result (λ c. c.strands ≡ count_nodes is_strand tree.now) }
         ensures committed { IfOk result (λ c. c.committed ≡ count_nodes stands_committed tree.now) }
         ensures undone { IfOk result (λ c. c.undone ≡ count_nodes is_undone tree.now) }
+        ensures cancelled { IfOk result (λ c. c.cancelled ≡ count_nodes stands_cancelled tree.now) }
     {
         let live = live_nodes(alloc, tree)?;
+        let cancels = nodes_with_cancels(alloc, tree)?;
         let mut counts = Counts {
             strands: 0,
             committed: 0,
             undone: 0,
+            cancelled: 0,
         };
         for n in 0..tree.nodes().len() as u32 {
             let lives = live[n as usize];
             counts.strands += one_if(tree.is_strand(n));
             counts.committed += one_if(stands_committed(tree, lives, n));
             counts.undone += one_if(is_undone(tree, lives, n));
+            let given_up = cancels[n as usize];
+            counts.cancelled += one_if(stands_cancelled(tree, lives, given_up, n));
         }
         Ok(counts)
     }
@@ -66,6 +73,26 @@ fn is_live(tree: &Tree, before: &[bool], n: u32) -> bool
     !tree.is_aborted(parent) && before[parent as usize]
 }
 
+// Returns for each node whether a child of its own is a cancel.
+fn nodes_with_cancels(alloc: Global, tree: &Tree) -> Result<Vec<bool>, OutOfMemory>
+    ensures { IfOk result (λ cs. cs.items ≡ map (has_cancel tree.now) (all_nodes tree.now)) }
+{
+    let count = tree.nodes().len();
+    let mut cancels = vec![in alloc; false; count]?;
+    for n in 1..count as u32 {
+        let parent = tree.parent(n) as usize;
+        cancels[parent] |= is_cancel(tree, n);
+    }
+    Ok(cancels)
+}
+
+fn is_cancel(tree: &Tree, n: u32) -> bool
+    requires { n < length tree.now }
+    ensures { result ≡ is_cancel tree.now n }
+{
+    matches!(tree.node(n).kind, Kind::Cancel { .. })
+}
+
 // Whether a node is a committed block.
 fn is_committed(tree: &Tree, n: u32) -> bool
     requires { n < length tree.now }
@@ -81,6 +108,16 @@ fn stands_committed(tree: &Tree, lives: bool, n: u32) -> bool
     ensures { result ≡ stands_committed tree.now n }
 {
     is_committed(tree, n) && lives
+}
+
+// Whether a node is a committed block with no aborted block above it, and with a cancel of its own.
+fn stands_cancelled(tree: &Tree, lives: bool, given_up: bool, n: u32) -> bool
+    requires there { n < length tree.now }
+    requires lives { lives ≡ is_live tree.now n }
+    requires given_up { given_up ≡ has_cancel tree.now n }
+    ensures { result ≡ stands_cancelled tree.now n }
+{
+    stands_committed(tree, lives, n) && given_up
 }
 
 // Whether a node is any other closed block.

@@ -10,7 +10,7 @@ mod found;
 mod report;
 mod results;
 
-ghost use Rattle.cw_report.specs.Worked.{Counts, Lines};
+ghost use Rattle.cw_report.specs.Worked.{Cancelled, Counts, Lines};
 
 pub use report::report_text;
 pub use results::result_text;
@@ -18,5 +18,6 @@ pub use results::result_text;
 /// Examples: reports on small runs.
 pub fn worked_reports()
     ensures counts { Counts }
+    ensures cancelled { Cancelled }
     ensures lines { Lines }
 {}

@@ -5,7 +5,7 @@ ghost use Rattle.std.specs.Ordering.{nat_cmp};
 ghost use Rattle.cw_code.specs.declared.CellInfo.{CellInfo};
 ghost use Rattle.cw_report.specs.Elements.{element_text};
 ghost use Rattle.cw_report.specs.Found.{AreFound};
-ghost use Rattle.cw_report.specs.Report.{accesses_text, blocks_text, conflict_line, counted_text, element_names, more_text, report_text, stamps_text, victim_text};
+ghost use Rattle.cw_report.specs.Report.{IsVersion, accesses_text, blocks_text, cancelled_text, conflict_line, counted_text, element_names, more_text, report_text, stamps_text, victim_text};
 
 use crate::counts::Counts;
 use crate::elements::{Element, elements, push_element};
@@ -17,13 +17,31 @@ use cw_tree::{Conflict, Tree};
 use std::alloc::Global;
 use std::fmt::Write;
 
-// Writes the lines before the conflicts, with these numbers.
-fn push_counts(text: &mut String, counts: Counts, conflicts: usize) -> Result<(), OutOfMemory>
-    ensures { OnOk result (string_bytes text.new ≡ string_bytes text.old ++ counted_text counts.strands counts.committed counts.undone conflicts) }
+// Writes what report 2 adds to the line of the blocks.
+fn push_cancelled(text: &mut String, version: u32, cancelled: u32) -> Result<(), OutOfMemory>
+    ensures { OnOk result (string_bytes text.new ≡ string_bytes text.old ++ cancelled_text version cancelled) }
 {
-    text.push_str("report 1\n")?;
+    if version == 2 {
+        write!(text, " cancelled {cancelled}")?;
+    }
+    Ok(())
+}
+
+// Writes the lines before the conflicts, with these numbers.
+fn push_counts(
+    text: &mut String,
+    version: u32,
+    counts: Counts,
+    conflicts: usize,
+) -> Result<(), OutOfMemory>
+    ensures { OnOk result (string_bytes text.new ≡ string_bytes text.old
+        ++ counted_text version counts.strands counts.committed counts.undone counts.cancelled conflicts) }
+{
+    writeln!(text, "report {version}")?;
     writeln!(text, "strands {}", counts.strands)?;
-    writeln!(text, "blocks {} {}", counts.committed, counts.undone)?;
+    write!(text, "blocks {} {}", counts.committed, counts.undone)?;
+    push_cancelled(text, version, counts.cancelled)?;
+    text.push_str("\n")?;
     writeln!(text, "conflicts {conflicts}")?;
     Ok(())
 }
@@ -127,21 +145,22 @@ fn push_conflicts(
     Ok(())
 }
 
-/// Returns the report on a run, which follows its result. It begins with `report 1` and three lines of numbers. The first has the
-/// strands of its tree, including those of rolled-back attempts and those that never started. The second has the committed blocks
-/// with no aborted block above them, and all other closed blocks. The third has the conflicts. Then follow a line for each
-/// conflict, in the record's order, and `end report`:
+/// Returns the report on a run, which follows its result. It begins with `report 1` or `report 2` and three lines of numbers. The
+/// first has the strands of its tree, including those of rolled-back attempts and those that never started. The second has the
+/// committed blocks with no aborted block above them, and all other closed blocks; in report 2 also how many of the committed ones
+/// were cancelled. The third has the conflicts. Then follow a line for each conflict, in the record's order, and `end report`:
 ///
 /// `conflict CELL last STRAND@STAMP asker STRAND block STAMP victim STAMP attempt NUMBER chain STAMPS`
 ///
 /// A cell is `NAME`, or `NAME[I]` for an element of an array. The strand of a stamp is that of the first node with this stamp.
 /// Without a victim, `none` is written; `?` is written for what the record does not have.
-pub fn report_text(alloc: Global, kept: &Record) -> Result<Vec<u8>, OutOfMemory>
-    ensures { IfOk result (λ text. text.items ≡ report_text kept.now) }
+pub fn report_text(alloc: Global, kept: &Record, version: u32) -> Result<Vec<u8>, OutOfMemory>
+    requires { IsVersion version }
+    ensures { IfOk result (λ text. text.items ≡ report_text kept.now version) }
 {
     let counts = Counts::of_tree(alloc, &kept.tree)?;
     let mut text = String::new(alloc);
-    push_counts(&mut text, counts, kept.conflicts.len())?;
+    push_counts(&mut text, version, counts, kept.conflicts.len())?;
     let cells = kept.program.cells.as_slice();
     push_conflicts(&mut text, &kept.tree, cells, kept.conflicts.as_slice())?;
     text.push_str("end report\n")?;
