@@ -6,7 +6,7 @@ use Rattle.cw_tree.specs.declared.node.Node.{Node}
 use Rattle.cw_tree.specs.Accesses.{is_live}
 use Rattle.cw_tree.specs.ForkCounts.{one_if}
 use Rattle.cw_tree.specs.Nodes.{is_aborted, parent_of}
-use Rattle.cw_tree.specs.Walks.{IsRooted, above}
+use Rattle.cw_tree.specs.Walks.{IsRooted}
 use Rattle.cw_tree.proofs.Counting.{count, count_le, count_step}
 use Rattle.cw_tree.proofs.Walks.Climbs.{above_step}
 

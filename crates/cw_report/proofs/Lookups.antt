@@ -1,19 +1,18 @@
 -- What is found once for all lines of a report: the first node with each stamp, which nodes are there, and the steps down to a strand.
-use Rattle.std.proofs.Common.{◌≡◌, ℕ, zero, suc, ◌+◌, ◌<◌, ◌≤◌, ◌++◌, ◌∷◌, List, [], Bool, true, false, Option, Some, None, length, map, refl, ap, sym, ◌∙◌, cond, arith}
+use Rattle.std.proofs.Common.{◌≡◌, ℕ, zero, suc, ◌+◌, ◌<◌, ◌≤◌, ◌++◌, ◌∷◌, List, [], Bool, true, false, Option, Some, None, length, refl, ap, sym, ◌∙◌, cond, arith}
 use Rattle.std.specs.Prelude.{◌==◌, ◌&&◌, find, nat_lt}
 use Rattle.std.specs.Option.{option_or}
 use Rattle.std.specs.Ordering.{is_eq, nat_cmp}
 use Rattle.std.proofs.lemmas.Bool.Decides.{nat_tests}
 use Rattle.std.proofs.lemmas.Bool.{lt-ltb, le-ltb}
 use Rattle.cw_tree.specs.declared.node.Node.{Node}
-use Rattle.cw_tree.specs.declared.picks.Turn.{Turn}
-use Rattle.cw_tree.specs.Nodes.{below, is_strand, is_fork, parent_of, stamp_of}
+use Rattle.cw_tree.specs.Nodes.{below, is_strand, parent_of, stamp_of}
 use Rattle.cw_tree.specs.Walks.{IsRooted}
-use Rattle.cw_tree.specs.Names.{strands_on, turn}
+use Rattle.cw_tree.specs.Names.{strands_on}
 use Rattle.cw_tree.specs.Series.{strand_of}
 use Rattle.cw_tree.proofs.Walks.Climbs.{by_parent}
-use Rattle.cw_tree.proofs.Walks.Strands.{strand_of_root, strand_of_strand, strand_of_other, strand_of_le}
-use Rattle.cw_tree.proofs.Names.Turns.{strands_step, turns_strand}
+use Rattle.cw_tree.proofs.Walks.Strands.{strand_of_root, strand_of_strand, strand_of_other}
+use Rattle.cw_tree.proofs.Names.Turns.{strands_step}
 use Rattle.cw_report.specs.Found.{first_with_stamp}
 use Rattle.cw_report.specs.Report.{node_there}
 

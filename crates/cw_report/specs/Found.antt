@@ -1,7 +1,5 @@
 -- What is computed once for all lines of a report.
-use Rattle.std.specs.Prelude.{◌≡◌, ℕ, List, ◌++◌, Bool, map, find, ◌==◌, Option, Some, None, codes}
-use Rattle.std.specs.declared.cmp.Ordering.{Ordering}
-use Rattle.std.specs.Fmt.{decimal}
+use Rattle.std.specs.Prelude.{◌≡◌, ℕ, List, Bool, map, find, ◌==◌, Option}
 use Rattle.cw_tree.specs.declared.node.Node.{Node}
 use Rattle.cw_tree.specs.Nodes.{all_nodes, below, stamp_of, with_stamp}
 use Rattle.cw_tree.specs.Names.{fork_number, is_right}

@@ -1,7 +1,6 @@
-use Rattle.std.proofs.Common.{◌≡◌, ◌∙◌, ◌≤◌, ◌<◌, ap, arith, get_or, length, rules}
+use Rattle.std.proofs.Common.{◌∙◌, ap, arith, get_or, length, rules}
 use Rattle.cw_tree.specs.Accesses.{is_live}
 use Rattle.cw_tree.specs.Nodes.{is_strand}
-use Rattle.cw_tree.proofs.Counting.{count_le}
 use Rattle.cw_tree.proofs.Lists.{length_map_below, get_map_below}
 use Rattle.cw_report.specs.Report.{has_cancel, is_undone, stands_cancelled, stands_committed}
 use Rattle.cw_report.proofs.Counted.{counted, one_more}
