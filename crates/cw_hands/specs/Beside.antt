@@ -10,6 +10,7 @@ use Rattle.cw_trace.specs.Columns.{used}
 use Rattle.cw_trace.specs.Stands.{column}
 use Rattle.cw_trace.specs.Hands.{gap_at}
 use Rattle.cw_open.specs.Machine.{has_finished, is_running}
+use Rattle.cw_open.specs.Open.{is_open}
 use Rattle.cw_open.specs.Runs.{Rules, at_any_time}
 use Rattle.cw_open.specs.Times.{times_after, IsTimely}
 use Rattle.cw_open.specs.Hands.{RunsTo}
@@ -73,6 +74,10 @@ pub record IsLeftWaiting (s u : SharedMoment) (q : ℕ) : Type 0 where
   pub gap : gap_at u.columns u.machine.tree q ≡ gap_at s.columns s.machine.tree q
   pub word : (b : ℕ) → IsTrue (is_pending s.machine.tree b && is_ancestor s.machine.tree b q) → slice_index s.words (gap_at s.columns s.machine.tree q) ≡ stamp_of s.machine.tree b
       → slice_index u.words (gap_at u.columns u.machine.tree q) ≡ slice_index s.words (gap_at s.columns s.machine.tree q)
+
+-- a step leaves so each open node whose own strand it is not about: the places of strands that run and of those that wait, and all above these
+abbrev pub OpenPlacesStay : Type 0
+OpenPlacesStay = OfEachSharedStep (λ asked s u e. (q : ℕ) → IsTrue (is_open s.machine q) → is_about (at_any_time asked) s u e (strand_of s.machine.tree q) ≡ false → IsLeftWaiting s u q)
 
 -- a step that is not about a running strand leaves so its place and each node above that: these are the places of the strands that wait for it
 abbrev pub WaitingStay : Type 0

@@ -2,11 +2,13 @@
 use Rattle.std.specs.Prelude.{◌≡◌, ◌&&◌, true, false, [], ◌∷◌}
 use Rattle.cw_tree.specs.Nodes.{is_pending}
 use Rattle.cw_tree.specs.Walks.{is_ancestor}
+use Rattle.cw_tree.specs.Series.{strand_of}
 use Rattle.cw_trace.specs.Columns.{used}
 use Rattle.cw_trace.specs.Stands.{column}
 use Rattle.cw_trace.specs.Hands.{gap_at}
 use Rattle.cw_open.specs.Machine.{is_running}
 use Rattle.cw_open.specs.Steps.{begins, finishes, forks, joins}
+use Rattle.cw_open.specs.Open.{is_open}
 use Rattle.cw_hands.specs.Shared.{SharedMoment, is_split, is_owed, goes_on, place_at, after_split, RunsTogether}
 use Rattle.cw_hands.specs.Worked.{any_rules, alone, after_these}
 
@@ -52,3 +54,23 @@ pub record OwedBeside : Type 0 where
   -- the right strand got another gap when it was stolen
   pub gap_whole : gap_at inner_forked.columns inner_forked.machine.tree 7 ≡ 1
   pub gap_stolen : gap_at inner_stolen.columns inner_stolen.machine.tree 7 ≡ 4
+
+-- ## A strand that waits while its right strand goes on
+
+-- main forks in a block, and the left strand finishes
+abbrev pub left_over : SharedMoment
+left_over = after_these alone (begins 0 1 ∷ forks 0 2 ∷ finishes 3 false ∷ [])
+
+-- the right strand, which is the only one that runs, begins a block
+abbrev pub right_begun : SharedMoment
+right_begun = after_these left_over (begins 4 3 ∷ [])
+
+pub record OpenBeside : Type 0 where
+  pub run : RunsTogether any_rules [] right_begun
+  pub alone : (is_running left_over.machine 0 ≡ false) × (is_running left_over.machine 3 ≡ false) × (goes_on left_over 4 ≡ true)
+  -- main waits in its block, which is left in its column, at its gap with the same word
+  pub opened : (is_open left_over.machine 1 ≡ true) × (strand_of left_over.machine.tree 1 ≡ 0)
+  pub column : (column left_over.machine.tree (used left_over.columns) 1 ≡ 0) × (column right_begun.machine.tree (used right_begun.columns) 1 ≡ 0)
+  pub gap : (gap_at left_over.columns left_over.machine.tree 1 ≡ 0) × (gap_at right_begun.columns right_begun.machine.tree 1 ≡ 0)
+  pub words_then : left_over.words ≡ 1 ∷ 0 ∷ 0 ∷ 0 ∷ 0 ∷ []
+  pub words_now : right_begun.words ≡ 1 ∷ 3 ∷ 0 ∷ 0 ∷ 0 ∷ []

@@ -7,13 +7,13 @@
 //! `specs/Worked.antt`, `specs/WorkedBeside.antt` and `specs/WorkedHeard.antt` try them.
 #![tactic(auto)]
 
-ghost use Rattle.cw_hands.specs.Beside.{ColumnsStay, GapsStay, OwedStay, ShownWordsStay, TogetherGoOn, WaitingStay};
+ghost use Rattle.cw_hands.specs.Beside.{ColumnsStay, GapsStay, OpenPlacesStay, OwedStay, ShownWordsStay, TogetherGoOn, WaitingStay};
 ghost use Rattle.cw_hands.specs.Heard.{ColumnsAreSound, ColumnsTell, CutsAreOnce, ForksLeaveReads, RightStays, VerdictsStay, WordsTell};
 ghost use Rattle.cw_hands.specs.Laws.{MachinesRun, MergedGoOn, OnlyReadyGoOn, OrderFollows, OrderIsKept, OthersLeaveReady, ReadyDiffer, ReadyGoOn, ReadyStay, TiersRun, TiersStand, TogetherAtAnyTime};
 ghost use Rattle.cw_hands.specs.LeftIdle.{IdleShowNone};
 ghost use Rattle.cw_hands.specs.NewColumns.{ForksGiveColumns};
 ghost use Rattle.cw_hands.specs.Worked.{NoneOwed, NotReady, TwoStrands};
-ghost use Rattle.cw_hands.specs.WorkedBeside.{OwedBeside};
+ghost use Rattle.cw_hands.specs.WorkedBeside.{OpenBeside, OwedBeside};
 ghost use Rattle.cw_hands.specs.WorkedHeard.{HeardRows};
 
 use cw_open::Ruled;
@@ -81,10 +81,11 @@ pub fn idle_left_strands()
     ensures { IdleShowNone }
 {}
 
-/// Law: a step that is not about a running strand leaves the column and the gap of its place, and of each place above that, where
-/// other strands wait. It leaves the word there if that shows a block around the place. If the strand is owed a merge, it leaves
-/// the word at its place in any case.
+/// Law: a step leaves the column and the gap of each open node, if it is not about the node's own strand. It leaves the word there if
+/// that shows a block around the node. So a step that is not about a running strand leaves its place, and each place above that, where
+/// other strands wait. If the strand is owed a merge, it leaves the word at its place in any case.
 pub fn waiting_places_stay()
+    ensures opened { OpenPlacesStay }
     ensures waiting { WaitingStay }
     ensures owed { OwedStay }
 {}
@@ -120,9 +121,10 @@ pub fn worked_strands()
     ensures not_ready { NotReady }
 {}
 
-/// Computed examples: a strand is owed a merge while another begins a block; and one hears of what another wrote, by a word, before
-/// and after that one ends its block.
+/// Computed examples: a strand is owed a merge while another begins a block; a strand waits in its block while its right strand begins
+/// one; and one hears of what another wrote, by a word, before and after that one ends its block.
 pub fn worked_beside()
     ensures owed { OwedBeside }
+    ensures opened { OpenBeside }
     ensures heard { HeardRows }
 {}

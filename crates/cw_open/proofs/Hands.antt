@@ -9,6 +9,7 @@ pub mod Joined
 pub mod Judged
 pub mod Looked
 pub mod Met
+pub mod Moves
 pub mod PutBack
 pub mod Rest
 pub mod Still

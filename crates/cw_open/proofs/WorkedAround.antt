@@ -10,7 +10,7 @@ use Rattle.cw_tree.proofs.Worked.Checks.{all_one}
 use Rattle.cw_open.specs.Steps.{first_machine}
 use Rattle.cw_open.specs.Runs.{IsRun, at_any_time}
 use Rattle.cw_open.specs.Looked.{accesses_of, IsFound}
-use Rattle.cw_open.specs.WorkedAround.{two_cells, led_to, both_wrote, right_took, TwoBlocks, second_zero, PutBackRows, RightJoins, StillRows, EntriesRows, TailsRows}
+use Rattle.cw_open.specs.WorkedAround.{two_cells, led_to, both_wrote, right_took, TwoBlocks, second_zero, PutBackRows, RightJoins, WaitingRows, StillRows, EntriesRows, TailsRows}
 use Rattle.cw_open.proofs.WorkedTimes.Checks.{next_stamp, end_stamp, comes_last}
 
 run : IsRun (at_any_time (λ t us w. newest us)) (first_machine two_cells) right_took
@@ -93,6 +93,9 @@ right_joins = record {
   main_runs = refl;
   main_place = refl;
 }
+
+pub waiting_rows : WaitingRows
+waiting_rows = record { waits = refl; opened = (refl, refl); blocks = (refl, refl); still_opened = refl; still_blocks = (refl, refl); right_blocks = refl; right_ended = refl }
 
 pub still_rows : StillRows
 still_rows = record { refused = refl; before = refl; beside = refl; own = refl }

@@ -1,14 +1,15 @@
 -- What is around the place of a strand: the nodes from there up, what each of them holds, and which of them are pending blocks. The
--- steps of other strands leave it.
-use Rattle.std.specs.Prelude.{◌≡◌, ℕ, ◌<◌, IsTrue, List, length, map, filter, slice_get}
+-- steps of other strands leave it, whether the strand runs or waits.
+use Rattle.std.specs.Prelude.{◌≡◌, ℕ, ◌<◌, false, IsTrue, List, length, map, filter, slice_get}
 use Rattle.cw_tree.specs.declared.node.Node.{Node}
 use Rattle.cw_tree.specs.Nodes.{stamp_of, is_pending}
 use Rattle.cw_tree.specs.Walks.{has, path, is_ancestor}
-use Rattle.cw_tree.specs.Series.{children, place}
+use Rattle.cw_tree.specs.Series.{strand_of, children, place}
 use Rattle.cw_tree.specs.Attempts.{block_attempt}
 use Rattle.cw_tree.specs.VictimsAt.{victim_at}
 use Rattle.cw_open.specs.Steps.{after_open_step}
-use Rattle.cw_open.specs.Hands.{OfEachOther}
+use Rattle.cw_open.specs.Open.{is_open}
+use Rattle.cw_open.specs.Hands.{OfEachStep, OfEachOther, is_step_of}
 
 -- the pending blocks above a place, or at it, innermost first
 abbrev pub blocks_at : List Node → ℕ → List ℕ
@@ -30,6 +31,10 @@ pub record IsKeptAt (t u : List Node) (q : ℕ) : Type 0 where
   pub each : (n : ℕ) → IsTrue (has (children t q) n) → slice_get u n ≡ slice_get t n
   pub victim : (n : ℕ) → n < length t → victim_at u n q ≡ victim_at t n q
 
--- a step of another leaves the place of a strand, and each node above it, as it was
+-- a step leaves each open node whose own strand does not make it: the places of strands that run and of those that wait, and all above these
+abbrev pub OpenStay : Type 0
+OpenStay = OfEachStep (λ m e. (q : ℕ) → IsTrue (is_open m q) → is_step_of (strand_of m.tree q) e ≡ false → IsKeptAt m.tree (after_open_step m e).tree q)
+
+-- so a step of another leaves the place of a running strand, and each node above it
 abbrev pub AroundStays : Type 0
 AroundStays = OfEachOther (λ m e s. (q : ℕ) → IsTrue (is_ancestor m.tree q (place m.tree s)) → IsKeptAt m.tree (after_open_step m e).tree q)

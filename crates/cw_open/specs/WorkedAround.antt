@@ -4,7 +4,7 @@ use Rattle.std.specs.Prelude.{◌≡◌, ℤ, ◌&&◌, not, List, [], ◌∷◌
 use Rattle.cw_code.specs.declared.Back.{Back}
 use Rattle.cw_tree.specs.Nodes.{is_fork, is_pending}
 use Rattle.cw_tree.specs.Walks.{has, nua}
-use Rattle.cw_tree.specs.Series.{place, children, parallel}
+use Rattle.cw_tree.specs.Series.{strand_of, place, children, parallel}
 use Rattle.cw_tree.specs.declared.access.Entry.{Entry}
 use Rattle.cw_tree.specs.Accesses.{is_live}
 use Rattle.cw_tree.specs.Attempts.{block_attempt}
@@ -15,6 +15,7 @@ use Rattle.cw_tree.specs.Newest.{newest}
 use Rattle.cw_open.specs.Machine.{OpenMachine, live, is_running, is_free}
 use Rattle.cw_open.specs.Steps.{Step, forks, begins, accesses, refuses, commits, undoes, aborts, finishes, live_beside, puts_back, after_all, first_machine}
 use Rattle.cw_open.specs.Runs.{IsRun, IsMet, at_any_time}
+use Rattle.cw_open.specs.Open.{is_open}
 use Rattle.cw_open.specs.Around.{blocks_at, begins_at}
 use Rattle.cw_open.specs.Judged.{IsBarredBy, met_of}
 use Rattle.cw_open.specs.Joins.{rest_steps, RightHasCome}
@@ -116,6 +117,23 @@ pub record RightJoins : Type 0 where
   pub may : IsRun (at_any_time (λ t us w. newest us)) (led_to right_alone) (rest_steps 2 4 false)
   pub main_runs : is_free (led_to (right_alone ++ rest_steps 2 4 false)) 0 ≡ true
   pub main_place : place (led_to (right_alone ++ rest_steps 2 4 false)).tree 0 ≡ 1
+
+-- ## A strand that waits
+
+-- the left strand has finished, so the right one is the only one that runs
+abbrev pub left_finished : List Step
+left_finished = left_closed ++ finishes 3 false ∷ []
+
+pub record WaitingRows : Type 0 where
+  -- main waits in its block, which stays as it was when the right strand ends its own
+  pub waits : is_running (led_to left_finished) 0 ≡ false
+  pub opened : (is_open (led_to left_finished) 1 ≡ true) × (strand_of (led_to left_finished).tree 1 ≡ 0)
+  pub blocks : (blocks_at (led_to left_finished).tree 1 ≡ 1 ∷ []) × (children (led_to left_finished).tree 1 ≡ 2 ∷ [])
+  pub still_opened : is_open (led_to right_alone) 1 ≡ true
+  pub still_blocks : (blocks_at (led_to right_alone).tree 1 ≡ 1 ∷ []) × (children (led_to right_alone).tree 1 ≡ 2 ∷ [])
+  -- the place of the right strand does not
+  pub right_blocks : blocks_at (led_to left_finished).tree 6 ≡ 6 ∷ 1 ∷ []
+  pub right_ended : blocks_at (led_to right_alone).tree 6 ≡ 1 ∷ []
 
 -- ## What was refused
 

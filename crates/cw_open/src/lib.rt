@@ -15,7 +15,7 @@
 //! `specs/Worked.antt`, `specs/WorkedTimes.antt`, `specs/WorkedHands.antt` and `specs/WorkedAround.antt` try them.
 #![tactic(auto)]
 
-ghost use Rattle.cw_open.specs.Around.{AroundStays};
+ghost use Rattle.cw_open.specs.Around.{AroundStays, OpenStay};
 ghost use Rattle.cw_open.specs.EntriesAt.{EntriesBegin, EntriesMore, EntriesStay};
 ghost use Rattle.cw_open.specs.Hands.{AheadIsNext, AllowedAtAnyTime, BeneathIsOwn, ConflictsAreTold, DrawnStay, EndStampsStay, ForkersRunAgain, JoinsLeaveAlone, MetInTimeStays, MetStays, NewestStay, NextStampsStay, NoneConflictsMore, OthersLeaveAlone, PlacesPart, RunsAreInTime, RunsBegin, RunsGoOn, StrandsMayJoin, TimesAreLow};
 ghost use Rattle.cw_open.specs.Joins.{ForkersGoOn, RestLeavesAlone, RightMayJoin};
@@ -32,7 +32,7 @@ ghost use Rattle.cw_open.specs.Still.{StillStays};
 ghost use Rattle.cw_open.specs.Tails.{TailsClose, TailsGrow};
 ghost use Rattle.cw_open.specs.Unfinished.{OneForkIsAwaited, RootsLeaveNone, UnfinishedAreLive, UntoldAreFree};
 ghost use Rattle.cw_open.specs.Worked.{Beneath, GivenUp, Inside, InnerCommitted, LeftStrands, Outer, Twice};
-ghost use Rattle.cw_open.specs.WorkedAround.{EntriesRows, PutBackRows, RightJoins, StillRows, TailsRows, TwoBlocks};
+ghost use Rattle.cw_open.specs.WorkedAround.{EntriesRows, PutBackRows, RightJoins, StillRows, TailsRows, TwoBlocks, WaitingRows};
 ghost use Rattle.cw_open.specs.WorkedHands.{BroughtByOther, TwoHands};
 ghost use Rattle.cw_open.specs.WorkedTimes.{DrawnEarly, RefusedLate};
 
@@ -239,9 +239,11 @@ pub fn right_strands_join()
     ensures alone { RestLeavesAlone }
 {}
 
-/// A step of another strand leaves what is around a running strand. Its place, and each node above that, is as it was, with the same
-/// nodes in it and the same pending blocks around it, at their attempts. The same block is the victim of each access.
+/// A step leaves each open node whose own strand does not make it: the places of strands that run and of those that wait. The node is
+/// as it was, with the same nodes in it and the same pending blocks around it, at their attempts. The same block is the victim of each
+/// access. So a step of another leaves the place of a running strand, and each node above that.
 pub fn others_leave_around()
+    ensures opened { OpenStay }
     ensures around { AroundStays }
 {}
 
@@ -339,6 +341,7 @@ pub fn worked_around()
     ensures blocks { TwoBlocks }
     ensures put_back { PutBackRows }
     ensures joins { RightJoins }
+    ensures waiting { WaitingRows }
     ensures still { StillRows }
     ensures entries { EntriesRows }
     ensures tails { TailsRows }

@@ -7,11 +7,13 @@ use Rattle.std.proofs.lemmas.List.{length-map}
 use Rattle.cw_tree.specs.declared.node.Node.{Node}
 use Rattle.cw_tree.specs.Nodes.{passes, is_block_kind, is_pending_state, parent_of, stamp_of, is_strand, is_fork, is_pending}
 use Rattle.cw_tree.specs.Names.{is_right}
-use Rattle.cw_tree.specs.Walks.{is_ancestor}
+use Rattle.cw_tree.specs.Walks.{path, is_ancestor}
 use Rattle.cw_tree.specs.Series.{strand_of, place}
+use Rattle.cw_tree.proofs.Lists.{In}
+use Rattle.cw_tree.proofs.Members.{in_filter, filter_in}
 use Rattle.cw_tree.proofs.NodeKinds.{fork_some}
 use Rattle.cw_tree.proofs.Walks.Ancestors.{ancestor_le, ancestor_trans}
-use Rattle.cw_tree.proofs.Walks.Kin.{branch, fork_child}
+use Rattle.cw_tree.proofs.Walks.Kin.{branch, fork_child, has_in}
 use Rattle.cw_tree.proofs.Walks.Strands.{strand_itself}
 use Rattle.cw_tree.proofs.Walks.There.{fork_there}
 use Rattle.cw_trace.specs.Columns.{used, gap, merged, back_to, around_fork, begun_word, closed_word}
@@ -21,18 +23,19 @@ use Rattle.cw_trace.specs.Hands.{gap_at}
 use Rattle.cw_trace.proofs.Keeps.Sides.{is_left}
 use Rattle.cw_trace.proofs.Stands.Counting.{fork_column_one}
 use Rattle.cw_open.specs.Machine.{has_finished, is_running, in_block, is_free, rolls_back}
-use Rattle.cw_open.specs.Steps.{Step}
+use Rattle.cw_open.specs.Steps.{Step, after_open_step}
 use Rattle.cw_open.specs.Steps as step
+use Rattle.cw_open.specs.Open.{is_open}
 use Rattle.cw_open.specs.Runs.{Rules, Allowed, at_any_time}
 use Rattle.cw_open.specs.LeftFirst.{makers}
 use Rattle.cw_open.specs.Hands.{is_step_of}
-use Rattle.cw_open.proofs.Hands.Around.{around_stays}
+use Rattle.cw_open.proofs.Hands.Around.{open_there, open_stay, around_stays}
 use Rattle.cw_open.proofs.Hands.Timed.{runs_go_on}
 use Rattle.cw_open.proofs.Open.Trees.{IsWell}
 use Rattle.cw_open.proofs.Open.Standing.{stands}
 use Rattle.cw_open.proofs.Open.TreeSteps.{free_runs, rolls_runs}
 use Rattle.cw_hands.specs.Shared.{SharedMoment, has_columns, is_split, is_owed, is_ready, goes_on, place_at, words_after, after_merge, SharedStep, makes, splits, merges, is_about, RunsTogether, more}
-use Rattle.cw_hands.specs.Beside.{TogetherGoOn, is_stolen_by, WaitingStay, IsLeftThere, OwedStay}
+use Rattle.cw_hands.specs.Beside.{TogetherGoOn, is_stolen_by, OpenPlacesStay, WaitingStay, IsLeftThere, OwedStay}
 use Rattle.cw_hands.proofs.Shared.Order.{wide_fork}
 use Rattle.cw_hands.proofs.Laws.Columns.{set_aside, step_column, step_gap, step_word}
 use Rattle.cw_hands.proofs.Laws.Kept.{owed_is}
@@ -80,6 +83,20 @@ module _ (s : SharedMoment) (w : IsWell s.machine) where
       let pos : 0 < q = elim (cases_eq q 0) [ inl c ↦ absurd (cc (right.0, ap (is_right t) c)) | inr c ↦ omega (arith, c) ] in
       absurd (unstarted.nothing n some low (up ∙ sym (one_right f unstarted fork q pos high z))))
 
+  -- nor is one whose own strand the step is not about
+  unstolen : (asked : List Node → List ℕ → Option ℤ → List ℕ) (u : SharedMoment) (e : SharedStep (at_any_time asked) s u) (q : ℕ) → q < length s.machine.tree → is_about (at_any_time asked) s u e (strand_of s.machine.tree q) ≡ false
+      → is_stolen_by (at_any_time asked) s u e q ≡ false
+  unstolen asked _ (makes e a ready later) q low other = refl
+  unstolen asked _ (merges f owed) q low other = refl
+  unstolen asked _ (splits f whole early unstarted) q low other =
+      false_from_ne_true (is_right t q && nat_eq (parent_of t q) f) (λ z.
+      let fork = wide_fork s f (and_parts (has_columns s f) _ whole).0 in
+      let y = and_parts (is_right t q) (nat_eq (parent_of t q) f) z in
+      let some : 0 < q = elim (cases_eq q 0) [ inl c ↦ absurd (cc (y.0, ap (is_right t) c)) | inr c ↦ omega (arith, c) ] in
+      let strand : is_strand t q ≡ true = fork_child t w.sound.tree q some low (ap (is_fork t) (eqb-true (parent_of t q) f y.1) ∙ fork) in
+      let itself : q ≡ strand_of t q = sym (strand_itself t w.sound.tree.rooted q strand) in
+      cc (other, ap (λ n. is_right t n && nat_eq (parent_of t n) f) itself, z))
+
   -- ## The places of strands that wait
 
   module _ (x : ℕ) (running : is_running s.machine x ≡ true) where
@@ -99,16 +116,9 @@ module _ (s : SharedMoment) (w : IsWell s.machine) where
       | inl same ↦ (let P : ℕ → Type 0 = λ n. is_stolen_by (at_any_time asked) s u e n ≡ false in subst P same (own asked u e other))
     ] where
       own : (asked : List Node → List ℕ → Option ℤ → List ℕ) (u : SharedMoment) (e : SharedStep (at_any_time asked) s u) → is_about (at_any_time asked) s u e x ≡ false → is_stolen_by (at_any_time asked) s u e p ≡ false
-      own asked _ (makes e a ready later) other = refl
-      own asked _ (merges f owed) other = refl
-      own asked _ (splits f whole early unstarted) other =
-          false_from_ne_true (is_right t p && nat_eq (parent_of t p) f) (λ z.
-          let fork = wide_fork s f (and_parts (has_columns s f) _ whole).0 in
-          let y = and_parts (is_right t p) (nat_eq (parent_of t p) f) z in
-          let some : 0 < p = elim (cases_eq p 0) [ inl c ↦ absurd (cc (y.0, ap (is_right t) c)) | inr c ↦ omega (arith, c) ] in
-          let strand : is_strand t p ≡ true = fork_child t w.sound.tree p some low (ap (is_fork t) (eqb-true (parent_of t p) f y.1) ∙ fork) in
-          let itself : p ≡ x = sym (strand_itself t w.sound.tree.rooted p strand) ∙ (stands s.machine w.sound.tree w.nested x running).strand in
-          cc (other, ap (λ n. is_right t n && nat_eq (parent_of t n) f) itself, z))
+      own asked u e other =
+          let P : ℕ → Type 0 = λ n. is_about (at_any_time asked) s u e n ≡ false in
+          unstolen asked u e p low (subst P (sym (stands s.machine w.sound.tree w.nested x running).strand) other)
 
 -- a block around the place of a strand stays pending as others step
 still_pending : (asked : List Node → List ℕ → Option ℤ → List ℕ) (first : List ℤ) (s u : SharedMoment) (e : SharedStep (at_any_time asked) s u) (x : ℕ) → RunsTogether (at_any_time asked) first s → is_running s.machine x ≡ true
@@ -117,6 +127,34 @@ still_pending asked first s _ (makes e a ready later) x run running other b pend
     ap (passes (λ y. is_block_kind y.kind && is_pending_state y.state)) (around_stays asked first s.machine (machine_reached (at_any_time asked) first s run) e a x running other b over).node ∙ pending
 still_pending asked first s _ (splits f whole early unstarted) x run running other b pending over = pending
 still_pending asked first s _ (merges f owed) x run running other b pending over = pending
+
+-- a block around an open node stays pending if the step is not about the node's own strand
+pending_around : (asked : List Node → List ℕ → Option ℤ → List ℕ) (first : List ℤ) (s u : SharedMoment) (e : SharedStep (at_any_time asked) s u) (q : ℕ) → RunsTogether (at_any_time asked) first s → is_open s.machine q ≡ true
+    → is_about (at_any_time asked) s u e (strand_of s.machine.tree q) ≡ false → (b : ℕ) → is_pending s.machine.tree b ≡ true → is_ancestor s.machine.tree b q ≡ true → is_pending u.machine.tree b ≡ true
+pending_around asked first s _ (makes e a ready later) q run opened other b pending over =
+    let t = s.machine.tree in
+    let v = (after_open_step s.machine e).tree in
+    let kept = open_stay asked first s.machine (machine_reached (at_any_time asked) first s run) e a q opened other in
+    let In_ : List ℕ → Type 0 = λ ns. In b ns in
+    (in_filter (is_pending v) b (path v q) (subst In_ (sym kept.blocks) (filter_in (is_pending t) b (path t q) (has_in (path t q) b over) pending))).1
+pending_around asked first s _ (splits f whole early unstarted) q run opened other b pending over = pending
+pending_around asked first s _ (merges f owed) q run opened other b pending over = pending
+
+pub open_places_stay : OpenPlacesStay
+open_places_stay asked first s u e run root q opened other =
+    let r = at_any_time asked in
+    let t = s.machine.tree in
+    let w = well_at r first s run in
+    let h = tiers_stand asked first s run (unfinished_at r s u e root) in
+    let there = open_there s.machine q opened in
+    let gap_same = step_gap s w h asked u e q there (unstolen s w asked u e q there other) in
+    record {
+      column = step_column s w h asked u e q there;
+      gap = gap_same;
+      word = λ b around shows. (
+          let z = and_parts (is_pending t b) (is_ancestor t b q) around in
+          ap (slice_index u.words) gap_same ∙ step_word s w h (gap_at s.columns t q) b z.0 shows asked u e (pending_around asked first s u e q run opened other b z.0 z.1));
+    }
 
 pub waiting_stay : WaitingStay
 waiting_stay asked first s u e run root x q running other up =

@@ -5,7 +5,7 @@ use Rattle.cw_open.specs.Steps.{begins, finishes, forks, joins}
 use Rattle.cw_open.proofs.WorkedTimes.Checks.{next_stamp}
 use Rattle.cw_hands.specs.Shared.{SharedMoment, makes, splits, more}
 use Rattle.cw_hands.specs.Worked.{alone, after_these}
-use Rattle.cw_hands.specs.WorkedBeside.{outer_stolen, inner_forked, inner_stolen, owed_merge, begun_beside, OwedBeside}
+use Rattle.cw_hands.specs.WorkedBeside.{outer_stolen, inner_forked, inner_stolen, owed_merge, begun_beside, OwedBeside, left_over, right_begun, OpenBeside}
 use Rattle.cw_hands.proofs.Worked.Strands.{Run, later, run_alone}
 
 abbrev begun : SharedMoment
@@ -66,4 +66,23 @@ owed_beside = record {
   fork_columns = (refl, refl);
   gap_whole = refl;
   gap_stolen = refl;
+}
+
+-- ## A strand that waits
+
+run_left : Run left_over
+run_left = more forked left_over run_forked (makes (finishes 3 false) refl refl tt)
+
+run_right : Run right_begun
+run_right = more left_over right_begun run_left (makes (begins 4 3) (refl, next_stamp _ _ _ refl refl refl refl) refl (later left_over 4 3 refl))
+
+pub open_beside : OpenBeside
+open_beside = record {
+  run = run_right;
+  alone = (refl, refl, refl);
+  opened = (refl, refl);
+  column = (refl, refl);
+  gap = (refl, refl);
+  words_then = refl;
+  words_now = refl;
 }
