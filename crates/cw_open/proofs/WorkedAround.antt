@@ -108,4 +108,4 @@ entries_rows = record {
 }
 
 pub tails_rows : TailsRows
-tails_rows = record { first_try = (refl, refl); rolled_back = refl; second_try = (refl, refl, refl) }
+tails_rows = record { first_try = (refl, refl); rolled_back = refl; second_try = (refl, refl, refl); again = (refl, refl); others = (refl, refl); older = (refl, refl) }

@@ -1,6 +1,6 @@
--- How the nodes in a place end: with so many rolled-back blocks, or refused accesses of a cell. What a new node makes of it, and a block
--- that is closed.
-use Rattle.std.specs.Prelude.{◌≡◌, ℕ, ◌+◌, ◌<◌, ◌&&◌, false, IsTrue, List, [], ◌∷◌, ◌++◌, length, Some}
+-- How the nodes in a place end: how many rolled-back blocks come last, or refused accesses of a cell. What a new node makes of it, and a
+-- block that is closed.
+use Rattle.std.specs.Prelude.{◌≡◌, ◌≢◌, ℕ, ◌+◌, ◌<◌, ◌&&◌, false, IsTrue, List, [], ◌∷◌, ◌++◌, length, Some}
 use Rattle.std.specs.List.{suffix_len}
 use Rattle.cw_tree.specs.declared.node.Node.{Node}
 use Rattle.cw_tree.specs.declared.node.Kind.TheVariants.{Tried}
@@ -8,7 +8,7 @@ use Rattle.cw_tree.specs.declared.node.BlockState.TheVariants.{Committed, Aborte
 use Rattle.cw_tree.specs.Nodes.{is_block_kind, is_aborted_state, parent_of, is_block, is_aborted, closed}
 use Rattle.cw_tree.specs.Walks.{IsRooted}
 use Rattle.cw_tree.specs.Series.{children, has_later}
-use Rattle.cw_tree.specs.Attempts.{tried_cell_in, tried_cell, same_cell, block_attempt}
+use Rattle.cw_tree.specs.Attempts.{tried_cell_in, tried_cell, same_cell, block_attempt, access_attempt}
 
 -- how many rolled-back blocks come last in a place
 abbrev pub aborted_last : List Node → ℕ → ℕ
@@ -26,6 +26,11 @@ pub record HasGrownTail (t : List Node) (x : Node) : Type 0 where
   pub again : (c : ℕ) → x.kind ≡ Tried c → tried_last (t ++ x ∷ []) x.parent c ≡ tried_last t x.parent c + 1
   pub anew : (c : ℕ) → same_cell (tried_cell_in x.kind) (Some c) ≡ false → tried_last (t ++ x ∷ []) x.parent c ≡ 0
   pub attempt : block_attempt (t ++ x ∷ []) (length t) ≡ aborted_last t x.parent + 1
+  pub tries : (c : ℕ) → x.kind ≡ Tried c → access_attempt (t ++ x ∷ []) (length t) ≡ tried_last t x.parent c + 1
+  -- other places, and the attempts of older nodes, stay
+  pub others : (p : ℕ) → p ≢ x.parent → children (t ++ x ∷ []) p ≡ children t p
+  pub older : (b : ℕ) → b < length t → block_attempt (t ++ x ∷ []) b ≡ block_attempt t b
+  pub older_tries : (v : ℕ) → v < length t → access_attempt (t ++ x ∷ []) v ≡ access_attempt t v
 
 abbrev pub TailsGrow : Type 0
 TailsGrow = (t : List Node) (x : Node) → IsRooted t → x.parent < length t → HasGrownTail t x

@@ -7,7 +7,7 @@ use Rattle.cw_tree.specs.Walks.{has, nua}
 use Rattle.cw_tree.specs.Series.{strand_of, place, children, parallel}
 use Rattle.cw_tree.specs.declared.access.Entry.{Entry}
 use Rattle.cw_tree.specs.Accesses.{is_live}
-use Rattle.cw_tree.specs.Attempts.{block_attempt}
+use Rattle.cw_tree.specs.Attempts.{block_attempt, access_attempt}
 use Rattle.cw_tree.specs.AccessStacks.{access_at}
 use Rattle.cw_tree.specs.Refusals.{refused_node}
 use Rattle.cw_tree.specs.VictimsAt.{victim_at}
@@ -161,7 +161,15 @@ pub record EntriesRows : Type 0 where
 abbrev pub tried_again : List Step
 tried_again = right_refused ++ undoes 4 1 ∷ aborts 4 7 ∷ begins 4 8 ∷ refuses 4 0 None (met_of 5 3) ∷ []
 
+-- a strand that is in no block is refused twice
+abbrev pub refused_twice : List Step
+refused_twice = forks 0 1 ∷ begins 2 2 ∷ accesses 2 0 (Some (pos 7)) 3 ∷ refuses 3 0 None (met_of 3 2) ∷ refuses 3 0 None (met_of 3 2) ∷ []
+
 pub record TailsRows : Type 0 where
   pub first_try : (block_attempt (led_to right_refused).tree 6 ≡ 1) × (tried_last (led_to right_refused).tree 6 0 ≡ 1)
   pub rolled_back : aborted_last (led_to (right_refused ++ undoes 4 1 ∷ aborts 4 7 ∷ [])).tree 4 ≡ 1
   pub second_try : (block_attempt (led_to tried_again).tree 10 ≡ 2) × (aborted_last (led_to tried_again).tree 4 ≡ 0) × (tried_last (led_to tried_again).tree 10 0 ≡ 1)
+  pub again : (access_attempt (led_to refused_twice).tree 6 ≡ 1) × (access_attempt (led_to refused_twice).tree 7 ≡ 2)
+  -- the other places, and the first attempts
+  pub others : (children (led_to tried_again).tree 6 ≡ 8 ∷ 9 ∷ []) × (children (led_to tried_again).tree 5 ≡ 7 ∷ [])
+  pub older : (block_attempt (led_to tried_again).tree 6 ≡ 1) × (access_attempt (led_to tried_again).tree 9 ≡ 1)

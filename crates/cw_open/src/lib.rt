@@ -303,7 +303,7 @@ pub fn entries_of_lists()
 {}
 
 /// How the nodes in a place end, which attempts are counted by: a new node comes behind them, and a block that is closed there as the
-/// last one is the last rolled-back one, or ends their row.
+/// last one is the last rolled-back one, or ends their row. A new node leaves other places, and the attempts of older nodes.
 pub fn places_end()
     ensures grow { TailsGrow }
     ensures close { TailsClose }

@@ -1,8 +1,8 @@
 -- How the nodes in a place end.
-use Rattle.std.proofs.Common.{◌≡◌, ℕ, ◌+◌, ◌<◌, List, [], ◌∷◌, ◌++◌, length, refl, ap, sym, ◌∙◌, arith, Bool, true, false, cond, Some, nat_eq, nat_lt, append-nil}
+use Rattle.std.proofs.Common.{◌≡◌, ◌≢◌, ℕ, ◌+◌, ◌<◌, List, [], ◌∷◌, ◌++◌, length, refl, ap, sym, ◌∙◌, arith, Bool, true, false, cond, Some, nat_eq, nat_lt, append-nil}
 use Rattle.std.specs.Prelude.{◌&&◌, filter}
 use Rattle.std.specs.List.{prefix_len, suffix_len}
-use Rattle.std.proofs.lemmas.Bool.{and_from, lt-ltb, ltb-true, eq-eqb, eqb-true, false_from_ne_true}
+use Rattle.std.proofs.lemmas.Bool.{and_from, lt-ltb, ltb-true, eq-eqb, eqb-true, ne_eqb, false_from_ne_true}
 use Rattle.std.proofs.lemmas.List.{reverse-append}
 use Rattle.std.proofs.lemmas.List.Elements.{filter-append}
 use Rattle.cw_tree.specs.declared.node.Node.{Node}
@@ -12,11 +12,11 @@ use Rattle.cw_tree.specs.declared.node.BlockState.TheVariants.{Committed, Aborte
 use Rattle.cw_tree.specs.Nodes.{is_block_kind, is_aborted_state, parent_of, is_block, is_aborted, all_nodes, closed}
 use Rattle.cw_tree.specs.Walks.{IsRooted}
 use Rattle.cw_tree.specs.Series.{children, has_later}
-use Rattle.cw_tree.specs.Attempts.{elders, tried_cell_in, tried_cell, same_cell, block_attempt}
+use Rattle.cw_tree.specs.Attempts.{elders, tried_cell_in, tried_cell, same_cell, block_attempt, access_attempt}
 use Rattle.cw_tree.proofs.Lists.{In, any_from}
 use Rattle.cw_tree.proofs.Members.{in_filter, in_below, below_in, filter_in, filter_all, suffix_same, below_last}
 use Rattle.cw_tree.proofs.Walks.There.{node_there}
-use Rattle.cw_tree.proofs.NextNodes.Growing.{get_next, get_append, node_new, node_grown, number_new}
+use Rattle.cw_tree.proofs.NextNodes.Growing.{get_next, get_append, node_new, node_grown, number_new, number_grown}
 use Rattle.cw_tree.proofs.NextNodes.Closing.{node_closed_other, state_closed}
 use Rattle.cw_tree.proofs.NextNodes.Trees.{is_child, children_more, children_none}
 use Rattle.cw_open.specs.Tails.{aborted_last, tried_last, HasGrownTail, TailsGrow, TailsClose}
@@ -65,11 +65,13 @@ module _ (t : List Node) (x : Node) (r : IsRooted t) (low : x.parent < length t)
   abbrev tries_at : List Node → ℕ → ℕ → Bool
   tries_at v c m = same_cell (tried_cell v m) (Some c)
 
+  tries_same : (c : ℕ) → suffix_len (tries_at u c) cs ≡ suffix_len (tries_at t c) cs
+  tries_same c = suffix_same (tries_at u c) (tries_at t c) cs (λ m i. ap (λ o. same_cell o (Some c)) (tried_old m (old m i)))
+
   tried_again : (c : ℕ) → x.kind ≡ Tried c → tried_last u x.parent c ≡ tried_last t x.parent c + 1
   tried_again c e =
       let passes : tries_at u c n ≡ true = ap (λ o. same_cell o (Some c)) (tried_here ∙ ap tried_cell_in e) ∙ eq-eqb c c refl in
-      let same : suffix_len (tries_at u c) cs ≡ suffix_len (tries_at t c) cs = suffix_same (tries_at u c) (tries_at t c) cs (λ m i. ap (λ o. same_cell o (Some c)) (tried_old m (old m i))) in
-      by_test (tries_at u c) ∙ ap (λ b. cond b (1 + suffix_len (tries_at u c) cs) 0) passes ∙ omega (arith, same)
+      by_test (tries_at u c) ∙ ap (λ b. cond b (1 + suffix_len (tries_at u c) cs) 0) passes ∙ omega (arith, tries_same c)
 
   elders_are : elders u n ≡ cs
   elders_are =
@@ -80,6 +82,46 @@ module _ (t : List Node) (x : Node) (r : IsRooted t) (low : x.parent < length t)
       ∙ append-nil (filter (λ m. nat_lt m n) cs)
       ∙ filter_all (λ m. nat_lt m n) cs (λ m i. lt-ltb m n (old m i))
 
+  new_try : (c : ℕ) → x.kind ≡ Tried c → access_attempt u n ≡ tried_last t x.parent c + 1
+  new_try c e =
+      ap (λ o. suffix_len (λ m. same_cell (tried_cell u m) o) (elders u n) + 1) (tried_here ∙ ap tried_cell_in e)
+      ∙ ap (λ ns. suffix_len (tries_at u c) ns + 1) elders_are
+      ∙ ap (λ k. k + 1) (tries_same c)
+
+  -- ## What stays
+
+  others_stay : (q : ℕ) → q ≢ x.parent → children u q ≡ children t q
+  others_stay q ne = children_more t x q (omega arith) ∙ ap (λ b. children t q ++ cond b (n ∷ []) []) (ne_eqb x.parent q (λ e. ne (sym e))) ∙ append-nil (children t q)
+
+  none_newer : (m : ℕ) → m < n → (b : Bool) → filter (λ k. nat_lt k m) (cond b (n ∷ []) []) ≡ []
+  none_newer m h true = ap (λ b. cond b (n ∷ []) []) (false_from_ne_true (nat_lt n m) (λ e. absurd (let l = ltb-true n m e in omega arith)))
+  none_newer m h false = refl
+
+  elders_stay : (m : ℕ) → m < n → elders u m ≡ elders t m
+  elders_stay m h =
+      let q = parent_of t m in
+      ap (λ k. filter (λ j. nat_lt j m) (children u k)) (number_grown t (x ∷ []) (λ y. y.parent) m h)
+      ∙ ap (filter (λ j. nat_lt j m)) (children_more t x q (omega arith))
+      ∙ filter-append (λ j. nat_lt j m) (children t q) (cond (nat_eq x.parent q) (n ∷ []) [])
+      ∙ ap (λ ns. elders t m ++ ns) (none_newer m h (nat_eq x.parent q))
+      ∙ append-nil (elders t m)
+
+  elder_old : (m j : ℕ) → In j (elders t m) → j < n
+  elder_old m j i = in_below j n (in_filter (is_child t (parent_of t m)) j (all_nodes t) (in_filter (λ k. nat_lt k m) j (children t (parent_of t m)) i).0).0
+
+  older_stay : (b : ℕ) → b < n → block_attempt u b ≡ block_attempt t b
+  older_stay b h =
+      ap (λ ns. suffix_len (is_aborted u) ns + 1) (elders_stay b h)
+      ∙ ap (λ k. k + 1) (suffix_same (is_aborted u) (is_aborted t) (elders t b) (λ j i. node_grown t (x ∷ []) (λ y. is_block_kind y.kind && is_aborted_state y.state) j (elder_old b j i)))
+
+  abbrev tries_like : List Node → ℕ → ℕ → Bool
+  tries_like v k m = same_cell (tried_cell v m) (tried_cell v k)
+
+  older_tries_stay : (v : ℕ) → v < n → access_attempt u v ≡ access_attempt t v
+  older_tries_stay v h =
+      ap (λ ns. suffix_len (tries_like u v) ns + 1) (elders_stay v h)
+      ∙ ap (λ k. k + 1) (suffix_same (tries_like u v) (tries_like t v) (elders t v) (λ j i. ap (λ o. same_cell o (tried_cell u v)) (tried_old j (elder_old v j i)) ∙ ap (same_cell (tried_cell t j)) (tried_old v h)))
+
   pub grown : HasGrownTail t x
   grown = record {
     behind = behind_all;
@@ -88,6 +130,10 @@ module _ (t : List Node) (x : Node) (r : IsRooted t) (low : x.parent < length t)
     again = tried_again;
     anew = λ c e. by_test (tries_at u c) ∙ ap (λ b. cond b (1 + suffix_len (tries_at u c) cs) 0) (ap (λ o. same_cell o (Some c)) tried_here ∙ e);
     attempt = ap (λ ns. suffix_len (is_aborted u) ns + 1) elders_are ∙ ap (λ k. k + 1) aborted_old;
+    tries = new_try;
+    others = others_stay;
+    older = older_stay;
+    older_tries = older_tries_stay;
   }
 
 pub tails_grow : TailsGrow
