@@ -12,6 +12,7 @@ pub mod Met
 pub mod Moves
 pub mod PutBack
 pub mod Rest
+pub mod Roots
 pub mod Still
 pub mod Tails
 pub mod Timed

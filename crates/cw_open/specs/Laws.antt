@@ -3,7 +3,7 @@
 use Rattle.std.specs.Prelude.{◌≡◌, ℕ, ℤ, ◌<◌, ◌≤◌, ◌⊎◌, ◌&&◌, false, IsTrue, All, List, length, map, Option}
 use Rattle.std.specs.List.Sorted.{IsStrictlyIncreasing}
 use Rattle.cw_tree.specs.declared.node.Node.{Node}
-use Rattle.cw_tree.specs.Nodes.{stamp_of, end_of, is_block, is_pending, touches}
+use Rattle.cw_tree.specs.Nodes.{parent_of, stamp_of, end_of, is_block, is_pending, touches}
 use Rattle.cw_tree.specs.Walks.{has, is_above}
 use Rattle.cw_tree.specs.Series.{place}
 use Rattle.cw_tree.specs.Accesses.{is_live, live_accesses, IsChainOf}
@@ -32,6 +32,10 @@ OfEachWithNewest P = (first : List ℤ) (m : OpenMachine) → IsReachedBy (at_an
 -- the tree is a computation tree, its stamps differ and rise along it, and nothing comes after a pending block
 abbrev pub TreesAreSound : Type 0
 TreesAreSound = OfEachState (λ first m. IsSound m.tree)
+
+-- its root is its own parent
+abbrev pub RootsStay : Type 0
+RootsStay = OfEachState (λ first m. parent_of m.tree 0 ≡ 0)
 
 -- open nodes are in open ones, at most one in each, and as its last
 abbrev pub OpenAreNested : Type 0

@@ -20,7 +20,7 @@ ghost use Rattle.cw_open.specs.EntriesAt.{EntriesBegin, EntriesMore, EntriesStay
 ghost use Rattle.cw_open.specs.Hands.{AheadIsNext, AllowedAtAnyTime, BeneathIsOwn, ConflictsAreTold, DrawnStay, EndStampsStay, ForkersRunAgain, JoinsLeaveAlone, MetInTimeStays, MetStays, NewestStay, NextStampsStay, NoneConflictsMore, OthersLeaveAlone, PlacesPart, RunsAreInTime, RunsBegin, RunsGoOn, StrandsMayJoin, TimesAreLow};
 ghost use Rattle.cw_open.specs.Joins.{ForkersGoOn, RestLeavesAlone, RightMayJoin};
 ghost use Rattle.cw_open.specs.Judged.{AccessesStay, BarredAreMet, BarredArePart, FreeStay, WithinStay};
-ghost use Rattle.cw_open.specs.Laws.{AtOnceIsAtAnyTime, BlocksHaveEnded, CancelsAreRight, CancelsNameCells, CellsFit, ClocksAreLatest, DyingRollBack, FreeAreSafe, ListsAreChains, ListsAreLive, ListsHaveAll, ListsRise, OpenAreNested, OwnAccessesAreFree, RefusalsAreTold, StrandsStandAtPlaces, TreesAreSound, VictimsAreAbove};
+ghost use Rattle.cw_open.specs.Laws.{AtOnceIsAtAnyTime, BlocksHaveEnded, CancelsAreRight, CancelsNameCells, CellsFit, ClocksAreLatest, DyingRollBack, FreeAreSafe, ListsAreChains, ListsAreLive, ListsHaveAll, ListsRise, OpenAreNested, OwnAccessesAreFree, RefusalsAreTold, RootsStay, StrandsStandAtPlaces, TreesAreSound, VictimsAreAbove};
 ghost use Rattle.cw_open.specs.Left.{HistoriesAreInOrder, HistoriesAreLeft};
 ghost use Rattle.cw_open.specs.LeftFirst.{AtOnceIsWhilePending, LeftFirstAreOlder, LeftFirstHaveFinished, LeftFirstIsUnrefused};
 ghost use Rattle.cw_open.specs.Looked.{BeneathIsLast, BeneathStays, FoundArePutBack, LooksStay, NewestAreBeneath, OneBlockHas};
@@ -45,6 +45,11 @@ pub fn trees_of_runs()
     ensures open_nodes { OpenAreNested }
     ensures places { StrandsStandAtPlaces }
     ensures clocks { ClocksAreLatest }
+{}
+
+/// In every state the root is its own parent.
+pub fn roots_stay()
+    ensures root { RootsStay }
 {}
 
 /// In every state the lists rise and contain only live accesses of their cells. If no undo is under way, they contain all of them.
