@@ -4,4 +4,5 @@ pub mod Nodes
 pub mod Conflicts
 pub mod Given
 pub mod Hanging
+pub mod Earlier
 pub mod Worked

@@ -65,7 +65,7 @@ EachIsLogOf t cs (l ∷ ls) (ns ∷ nss) = IsLogOf t cs l ns × EachIsLogOf t cs
 
 -- ## Where logs hang
 
--- The first node of a log is the right strand of a fork. The log hangs from this fork, which is in a log before it.
+-- The first node of a log is the right strand of a fork. The log hangs from this fork, which is in one of the logs `before`.
 pub record IsHung (t : List Node) (before : List Log) (numbers : List (List ℕ)) (l : Log) (ns : List ℕ) : Type 0 where
   pub right : IsTrue (is_right t (slice_index ns 0))
   pub from : number_in_tree before numbers l.from l.fork ≡ Some (parent_of t (slice_index ns 0))
@@ -87,6 +87,18 @@ abbrev pub HangFromRoot : (t : List Node) → List Log → (numbers : List (List
 HangFromRoot t [] nss = ⊥
 HangFromRoot t (l ∷ ls) [] = ⊥
 HangFromRoot t (l ∷ ls) (ns ∷ nss) = IsRootLog t l ns × AreHung t (l ∷ []) (ns ∷ []) ls nss
+
+-- The same without the order: the log hangs from one among `all`. Log by log of a list; then of all logs but the first, which begins at
+-- the root.
+abbrev pub HangAmong : (t : List Node) → (all : List Log) → (numbers : List (List ℕ)) → List Log → (more : List (List ℕ)) → Type 0
+HangAmong t all nss [] mss = Unit {0}
+HangAmong t all nss (l ∷ ls) [] = ⊥
+HangAmong t all nss (l ∷ ls) (ns ∷ mss) = IsHung t all nss l ns × HangAmong t all nss ls mss
+
+abbrev pub HangTogether : (t : List Node) → List Log → (numbers : List (List ℕ)) → Type 0
+HangTogether t [] nss = ⊥
+HangTogether t (l ∷ ls) [] = ⊥
+HangTogether t (l ∷ ls) (ns ∷ nss) = IsRootLog t l ns × HangAmong t (l ∷ ls) (ns ∷ nss) ls nss
 
 -- ## All logs
 
@@ -141,3 +153,13 @@ abbrev pub ClosingsGiveOneTree : Type 0
 ClosingsGiveOneTree =
     (t : List Node) (cs : List Conflict) (all : List Log) (numbers : List (List ℕ)) (stop : Option Stop) (c : Closed) → IsNumbered t → IsSound t → AreLogsOf t cs all numbers
     → IsPutTogether all stop c → GivesOneTree t cs all numbers stop c
+
+-- if the tree of such logs is numbered, as it is when a board is closed with them, each log hangs from an earlier one
+abbrev pub EarlierFollows : Type 0
+EarlierFollows =
+    (t : List Node) (cs : List Conflict) (all : List Log) (numbers : List (List ℕ)) → EachIsLogOf t cs all numbers → AreApart all → IsNumbered (tree_of all) → HangTogether t all numbers
+    → HangFromRoot t all numbers
+
+-- logs of which each hangs from an earlier one hang together
+abbrev pub EarlierAreTogether : Type 0
+EarlierAreTogether = (t : List Node) (all : List Log) (numbers : List (List ℕ)) → HangFromRoot t all numbers → HangTogether t all numbers

@@ -11,7 +11,7 @@ use Rattle.cw_tree.specs.InOrder.{in_order}
 use Rattle.cw_log.specs.declared.log.Log.{Log}
 use Rattle.cw_log.specs.declared.token.Stop.{Stop}
 use Rattle.cw_course.specs.Closings.{tree_of, conflicts_of, last_conflict, halt_in}
-use Rattle.cw_course.specs.TreeLogs.{number_in_tree, halt_in_tree, AreLogsOf}
+use Rattle.cw_course.specs.TreeLogs.{number_in_tree, halt_in_tree, HangTogether, AreLogsOf}
 
 -- cell c; fn main() { spawn { spawn { out 7; } atomic { c = 1; cancel; } } atomic { c = 2; } }
 
@@ -62,6 +62,9 @@ pub record WorkedTreeLogs : Type 0 where
   pub numbered : IsNumbered made_in_time
   pub sound : IsSound made_in_time
   pub logs : AreLogsOf made_in_time (refused_as 10 ∷ []) (logs_with 0 1 (refused_as 2 ∷ [])) numbers_in_time
+  pub together : HangTogether made_in_time (logs_with 0 1 (refused_as 2 ∷ [])) numbers_in_time
+  -- if a log hangs from a later one, the tree is not numbered
+  pub later : IsNumbered (tree_of (log_of_main 0 ∷ record log_inside { from = 1; fork = 1 } ∷ log_at_right 1 [] ∷ [])) → ⊥
   -- what they make together
   pub tree : tree_of (logs_with 0 1 (refused_as 2 ∷ []))
       ≡ plain 0 Strand 0 ∷ plain 0 Fork 1 ∷ plain 1 Strand 0 ∷ plain 2 Fork 2 ∷ plain 3 Strand 0 ∷ pending 4 4 ∷ plain 5 (Write 0 (pos 1)) 5

@@ -12,7 +12,7 @@ ghost use Rattle.cw_course.specs.Closings.{CoursesFollow, WorkedAreCoherent};
 ghost use Rattle.cw_course.specs.Courses.{CoursesGoOn};
 ghost use Rattle.cw_course.specs.Worked.{WorkedCourses};
 
-pub use one_tree::{logs_make_one_tree, worked_tree_logs};
+pub use one_tree::{logs_hang_earlier, logs_make_one_tree, worked_tree_logs};
 
 /// Examples: what the strands of small programs did is a course, and is none once one thing is changed.
 pub fn worked_courses()

@@ -1,4 +1,4 @@
-ghost use Rattle.cw_course.specs.TreeLogs.{ClosingsGiveOneTree, LogsMakeOneTree};
+ghost use Rattle.cw_course.specs.TreeLogs.{ClosingsGiveOneTree, EarlierAreTogether, EarlierFollows, LogsMakeOneTree};
 ghost use Rattle.cw_course.specs.WorkedTreeLogs.{WorkedTreeLogs};
 
 /// Logs that have all nodes of a tree, each node once, and that hang where the tree has them make that tree together, except for the
@@ -7,6 +7,13 @@ ghost use Rattle.cw_course.specs.WorkedTreeLogs.{WorkedTreeLogs};
 pub fn logs_make_one_tree()
     ensures tree { LogsMakeOneTree }
     ensures closed { ClosingsGiveOneTree }
+{}
+
+/// Logs whose tree is numbered each hang from an earlier one, if each begins with a right strand and hangs from some log. The other way
+/// round this is so too.
+pub fn logs_hang_earlier()
+    ensures earlier { EarlierFollows }
+    ensures together { EarlierAreTogether }
 {}
 
 /// Examples: the logs of a small tree, which are not its logs once one thing is changed.

@@ -179,6 +179,8 @@ worked_tree_logs = record {
     pending_last = pending_last made_in_time refl refl;
   };
   logs = logs;
+  together = (record { number = refl; parent = refl; from = (refl, refl) }, (record { right = refl; from = refl }, (record { right = refl; from = refl }, tt)));
+  later = λ w. (let low : 11 < 8 = w.rooted 8 (lit< tt) (lit< tt) in absurd (omega arith));
   tree = refl;
   one = refl;
   conflicts = refl;
