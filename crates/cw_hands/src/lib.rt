@@ -91,8 +91,8 @@ pub fn waiting_places_stay()
 {}
 
 /// Law: at each moment, what is named in columns is in use, marks are there just where a column names a trace, and a trace around
-/// with a pending block has a lead. A fork leaves what a question reads of columns in use. Each fork is split once at most, and
-/// joined once.
+/// with a pending block has a lead. A fork leaves what a question reads of columns in use. Each fork is split at most once, and joined
+/// at most once.
 pub fn columns_are_sound()
     ensures sound { ColumnsAreSound }
     ensures reads { ForksLeaveReads }
@@ -106,7 +106,8 @@ pub fn words_tell()
     ensures columns { ColumnsTell }
 {}
 
-/// Law: a verdict that is right at the place of a running strand stays right, and a conflict can tell it, until that strand steps.
+/// Law: a verdict that is right at the place of a running strand serves until that strand steps. Free and Within stay true. If the
+/// verdict is Against a block, a conflict can tell that block, even if it has ended since.
 pub fn verdicts_stay()
     ensures right { RightStays }
     ensures stay { VerdictsStay }

@@ -268,8 +268,8 @@ pub fn barred_are_told()
 {}
 
 /// If an access may conflict only with the newest one, and a list has an access beneath the block of a running strand, then its
-/// newest one is beneath that block too, and none is beneath the block of another. So a step of another leaves the list. In any
-/// case it leaves whether the block wrote the cell, and what the cell had before.
+/// newest one is beneath that block too, and none is beneath the block of another running strand. So a step of another leaves the
+/// list. It also leaves whether the block wrote a cell and, if it did, what the cell had before.
 pub fn looks_stay()
     ensures newest { NewestAreBeneath }
     ensures one { OneBlockHas }
