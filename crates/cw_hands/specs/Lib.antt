@@ -7,3 +7,4 @@ pub mod Shared
 pub mod Worked
 pub mod WorkedBeside
 pub mod WorkedHeard
+pub mod WordsAround

@@ -8,8 +8,10 @@ use Rattle.cw_trace.specs.Stands.{column}
 use Rattle.cw_trace.specs.Hands.{gap_at}
 use Rattle.cw_open.specs.Machine.{is_running}
 use Rattle.cw_open.specs.Steps.{begins, finishes, forks, joins}
+use Rattle.cw_open.specs.Around.{begins_at}
 use Rattle.cw_open.specs.Open.{is_open}
 use Rattle.cw_hands.specs.Shared.{SharedMoment, is_split, is_owed, goes_on, place_at, after_split, RunsTogether}
+use Rattle.cw_hands.specs.WordsAround.{ShowsAround}
 use Rattle.cw_hands.specs.Worked.{any_rules, alone, after_these}
 
 -- main begins a block and forks, and the right strand is stolen
@@ -74,3 +76,6 @@ pub record OpenBeside : Type 0 where
   pub gap : (gap_at left_over.columns left_over.machine.tree 1 ≡ 0) × (gap_at right_begun.columns right_begun.machine.tree 1 ≡ 0)
   pub words_then : left_over.words ≡ 1 ∷ 0 ∷ 0 ∷ 0 ∷ 0 ∷ []
   pub words_now : right_begun.words ≡ 1 ∷ 3 ∷ 0 ∷ 0 ∷ 0 ∷ []
+  -- the word of the right strand's gap shows its own block; the block of main is around it too
+  pub shows : ShowsAround right_begun 4
+  pub around : begins_at right_begun.machine.tree (place_at right_begun 4) ≡ 3 ∷ 1 ∷ []

@@ -2,8 +2,9 @@
 //! Use them for a runtime in which several strands share a tier.
 //! Contracts cite `specs/Shared.antt` (moments, which strands may go on, the steps, what each step needs, and runs) and
 //! `specs/Laws.antt` (what is true of all runs). `specs/Beside.antt` says what steps leave of columns, gaps and gap words,
-//! `specs/NewColumns.antt` what a fork gives its strands, and `specs/LeftIdle.antt` what is true of left strands that are in
-//! no block of their own. `specs/Heard.antt` says what columns and words tell a strand of an access, and that it stays right.
+//! `specs/NewColumns.antt` what a fork gives its strands, `specs/WordsAround.antt` what gap words show, and
+//! `specs/LeftIdle.antt` what is true of left strands that are in no block of their own. `specs/Heard.antt` says what columns
+//! and words tell a strand of an access, and that it stays right.
 //! `specs/Worked.antt`, `specs/WorkedBeside.antt` and `specs/WorkedHeard.antt` try them.
 #![tactic(auto)]
 
@@ -12,6 +13,7 @@ ghost use Rattle.cw_hands.specs.Heard.{ColumnsAreSound, ColumnsTell, CutsAreOnce
 ghost use Rattle.cw_hands.specs.Laws.{MachinesRun, MergedGoOn, OnlyReadyGoOn, OrderFollows, OrderIsKept, OthersLeaveReady, ReadyDiffer, ReadyGoOn, ReadyStay, TiersRun, TiersStand, TogetherAtAnyTime};
 ghost use Rattle.cw_hands.specs.LeftIdle.{IdleShowNone};
 ghost use Rattle.cw_hands.specs.NewColumns.{ForksGiveColumns};
+ghost use Rattle.cw_hands.specs.WordsAround.{WordsShowAround};
 ghost use Rattle.cw_hands.specs.Worked.{NoneOwed, NotReady, TwoStrands};
 ghost use Rattle.cw_hands.specs.WorkedBeside.{OpenBeside, OwedBeside};
 ghost use Rattle.cw_hands.specs.WorkedHeard.{HeardRows};
@@ -79,6 +81,11 @@ pub fn forks_give_columns()
 /// split, neither does that of the right strand.
 pub fn idle_left_strands()
     ensures { IdleShowNone }
+{}
+
+/// Law: the word of the gap of a strand that goes on shows no block, or a pending one around its place.
+pub fn words_show_around()
+    ensures { WordsShowAround }
 {}
 
 /// Law: a step leaves the column and the gap of each open node, if it is not about the node's own strand. It leaves the word there if

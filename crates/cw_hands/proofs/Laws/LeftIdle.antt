@@ -1,7 +1,7 @@
 -- The word of a left strand's gap, when it is in no block of its own.
-use Rattle.std.proofs.Common.{◌≡◌, ◌≢◌, ℕ, zero, suc, ◌+◌, ◌<◌, ◌≤◌, List, [], ◌∷◌, length, refl, ap, sym, ◌∙◌, subst, arith, Bool, true, false, Option, Some, None, inl, inr, nat_eq, nat_lt}
-use Rattle.std.specs.Prelude.{◌&&◌, slice_index, if◌then◌else◌}
-use Rattle.std.proofs.lemmas.Bool.{and_parts, and_from, cases_Bool, cases_lt, lt-ltb, eqb-true, false_from_ne_true}
+use Rattle.std.proofs.Common.{◌≡◌, ◌≢◌, ℕ, zero, suc, ◌+◌, ◌<◌, ◌≤◌, List, [], ◌∷◌, length, refl, ap, sym, ◌∙◌, subst, arith, Bool, true, false, inl, inr, nat_lt}
+use Rattle.std.specs.Prelude.{slice_index, if◌then◌else◌}
+use Rattle.std.proofs.lemmas.Bool.{and_from, cases_Bool, cases_lt, lt-ltb, false_from_ne_true}
 use Rattle.cw_tree.specs.declared.node.Node.{Node}
 use Rattle.cw_tree.specs.Nodes.{parent_of, is_strand, is_fork, is_pending}
 use Rattle.cw_tree.specs.Names.{is_right}
@@ -16,21 +16,21 @@ use Rattle.cw_tree.proofs.Walks.Ancestors.{ancestor_le, ancestor_step, ancestor_
 use Rattle.cw_tree.proofs.Walks.Kin.{fork_child}
 use Rattle.cw_tree.proofs.Walks.Strands.{strand_of_le}
 use Rattle.cw_tree.proofs.Walks.There.{fork_there, pending_there}
-use Rattle.cw_trace.specs.Columns.{ColumnTable, used, owner, gap}
-use Rattle.cw_trace.specs.Stands.{column, column_in, fork_column, outermost_pending, stamp_or_0}
+use Rattle.cw_trace.specs.Columns.{ColumnTable, used, gap}
+use Rattle.cw_trace.specs.Stands.{column, column_in, fork_column}
 use Rattle.cw_trace.specs.Running.{MayGoOn}
 use Rattle.cw_trace.specs.Hands.{StandsInOrder, gap_at}
-use Rattle.cw_trace.proofs.Keeps.GoingOn.{segment_of, active, goes_on}
-use Rattle.cw_trace.proofs.Keeps.Meaning.{column_low, odd_column}
+use Rattle.cw_trace.proofs.Keeps.GoingOn.{segment_of}
+use Rattle.cw_trace.proofs.Keeps.Meaning.{odd_column}
 use Rattle.cw_trace.proofs.Keeps.Owners.{column_strand}
 use Rattle.cw_trace.proofs.Keeps.Sides.{right_of, is_left}
-use Rattle.cw_trace.proofs.Segments.Lines.{used_some, own_trace, gap_le}
-use Rattle.cw_trace.proofs.Stands.Counting.{fork_column_lt, fork_column_suc, fork_column_pass, some_below}
+use Rattle.cw_trace.proofs.Stands.Counting.{fork_column_lt, fork_column_suc, fork_column_pass}
 use Rattle.cw_open.proofs.Laws.Named.{strand_is}
 use Rattle.cw_hands.specs.Shared.{has_columns, is_open_yet}
 use Rattle.cw_hands.specs.LeftIdle.{IdleShowNone}
 use Rattle.cw_hands.proofs.Shared.Order.{wide_fork, wide_low}
 use Rattle.cw_hands.proofs.Laws.Runs.{tiers_stand, ready_go_on}
+use Rattle.cw_hands.proofs.Laws.Shown.{is_shown, word_shows}
 
 -- ## Columns rise
 
@@ -112,16 +112,11 @@ module _ (c : ColumnTable) (words : List ℕ) (t : List Node) (cuts joins : List
 
   none_shown : (b : ℕ) → is_pending t b ≡ true → gap c (col b) ≡ gap c (col l) → ⊥
   none_shown b pending same =
-      let k = h.keeps in
-      let g = k.segments in
       let z = child_is t f l left_in in
-      let w = segment_of c words t cuts joins h.tree k is_open h.ordered l m.there m.opened in
-      let act = active c words t cuts joins h.tree k is_open h.ordered l m in
-      let low_l = column_low t (used c) l (used_some c cuts joins (is_pending t) col g) in
-      let trace = own_trace c cuts joins (is_pending t) col g (col l) low_l in
-      let owned = g.gap_owned (owner c (col l)) w.start b trace w.starts (λ x cut e. act.uncut x cut) pending (same ∙ w.same) in
+      let w = segment_of c words t cuts joins h.tree h.keeps is_open h.ordered l m.there m.opened in
       let low_b = pending_there t b pending in
-      let over : is_ancestor t b l ≡ true = goes_on c words t cuts joins h.tree k is_open h.ordered l m b low_b pending owned.0 in
+      let shown = is_shown c words t cuts joins is_open h l m b pending same in
+      let over : is_ancestor t b l ≡ true = shown.over in
       let apart : l ≢ b = λ e. cc (pending_block t b pending, strand_no_block t l strand_left, e) in
       let up : is_ancestor t b f ≡ true = ap (is_ancestor t b) (sym z.parent) ∙ sym (ancestor_step t h.tree.rooted b l z.some z.there apart) ∙ over in
       let low_f = fork_there t f fork in
@@ -130,19 +125,10 @@ module _ (c : ColumnTable) (words : List ℕ) (t : List Node) (cuts joins : List
       let other : f ≢ l = λ e. (let q : parent_of t l < l = h.tree.rooted l z.some z.there in absurd (omega (arith, e, z.parent))) in
       let last = w.last f fork wide above_l other in
       let small = before t h.tree (used c) b f low_b le in
-      omega (arith, last, small, owned.1)
+      omega (arith, last, small, shown.late)
 
   pub left_none : slice_index words (gap_at c t l) ≡ 0
-  left_none =
-      let k = h.keeps in
-      let low_l = column_low t (used c) l (used_some c cuts joins (is_pending t) col k.segments) in
-      let small : gap c (col l) ≤ col l = gap_le c cuts joins (is_pending t) col k.segments (col l) low_l in
-      k.words_are (gap c (col l)) (omega arith) ∙ by (outermost_pending t (used c) (λ i. nat_eq (gap c i) (gap c (col l)))) refl where
-        by : (o : Option ℕ) → outermost_pending t (used c) (λ i. nat_eq (gap c i) (gap c (col l))) ≡ o → stamp_or_0 t (outermost_pending t (used c) (λ i. nat_eq (gap c i) (gap c (col l)))) ≡ 0
-        by None e = ap (stamp_or_0 t) e
-        by (Some b) e =
-            let z = and_parts (is_pending t b) (nat_eq (gap c (col b)) (gap c (col l))) (some_below (λ b. is_pending t b && nat_eq (gap c (column t (used c) b)) (gap c (col l))) (length t) b e).passed in
-            absurd (none_shown b z.0 (eqb-true (gap c (col b)) (gap c (col l)) z.1))
+  left_none = elim (word_shows c words t cuts joins is_open h l m) [ inl none ↦ none | inr z ↦ absurd (none_shown z.0 z.1 z.2) ]
 
   pub right_none : has cuts (fork_column t f) ≡ false → slice_index words (gap_at c t r) ≡ 0
   right_none uncut =

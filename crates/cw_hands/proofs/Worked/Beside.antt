@@ -1,5 +1,5 @@
 -- The small run in which a strand is owed a merge while another begins a block.
-use Rattle.std.proofs.Common.{[], ◌∷◌, refl, false}
+use Rattle.std.proofs.Common.{[], ◌∷◌, refl, false, inr, arith}
 use Rattle.cw_trace.proofs.Worked.SmallRun.{unstarted}
 use Rattle.cw_open.specs.Steps.{begins, finishes, forks, joins}
 use Rattle.cw_open.proofs.WorkedTimes.Checks.{next_stamp}
@@ -85,4 +85,6 @@ open_beside = record {
   gap = (refl, refl);
   words_then = refl;
   words_now = refl;
+  shows = inr (0, omega arith, refl);
+  around = refl;
 }
