@@ -105,7 +105,7 @@ newest_tier (t ∷ ts) = t.tier
 abbrev pub tier_with : (more word column : ℕ) → Option Traces → Option Traces
 tier_with zero w c y = y
 tier_with (suc k) w c None = None
-tier_with (suc k) w c (Some x) = Some (record { columns = columns.forked w c x.columns })
+tier_with (suc k) w c (Some x) = Some (record x { columns = columns.forked w c x.columns })
 
 -- the aim for which the newest turn was taken; below, the cell that lay in its slot, with the access that was drawn since
 abbrev pub newest_aim : List Turn → Aim

@@ -4,6 +4,8 @@ pub mod Marks
 pub mod Outward
 pub mod Query
 pub mod Segments
+pub mod Listings
 pub mod Stands
+pub mod Touching
 pub mod ManyHands
 pub mod Worked

@@ -10,7 +10,7 @@ abbrev pub bracket_of : Inside → ℕ → ℕ
 bracket_of a e = slice_index a.marks.items e
 
 abbrev pub marks_of : Inside → Marks
-marks_of a = record { marks = map (λ e. slice_index a.marks.items e) a.order.elements; room = a.order.room; labels = map (λ e. slice_index a.order.labels e) a.elements.items }
+marks_of a = record { marks = map (λ e. slice_index a.marks.items e) a.order.elements; room = a.order.room; labels = map (λ e. slice_index a.order.labels e) a.elements.items; renumbered = map (λ e. slice_index a.marks.items e) a.order.renumbered }
 
 pub record AreBracketsInMemory (a : Inside) : Type 0 where
   pub elements_room : a.order.room ≤ vec_capacity a.elements

@@ -1,5 +1,8 @@
 pub mod Columns
 pub mod Labels
+pub mod Listed
+pub mod Listing
+pub mod Touched
 pub mod Marks
 pub mod Traces
 pub mod Tier

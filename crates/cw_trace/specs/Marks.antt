@@ -9,6 +9,8 @@ pub record Marks : Type 0 where
   pub room : ℕ
   -- the label of each mark
   pub labels : List ℕ
+  -- the marks that the last insertion gave new labels; 0 may be among them though it has its old one
+  pub renumbered : List ℕ
 
 -- the marks with m right after the given one, or first if none is given
 abbrev pub with_mark : Option ℕ → ℕ → List ℕ → List ℕ

@@ -20,6 +20,7 @@ traces_of a = record {
     outers = a.outers.items;
   };
   labels = a.brackets.labels;
+  touched = a.touched.columns;
 }
 
 -- how many columns name a trace
@@ -54,5 +55,7 @@ pub record IsTierInMemory (a : Inside) : Type 0 where
   pub traces_room : a.room ≤ vec_capacity a.traces
   pub outers_room : a.room ≤ vec_capacity a.outers
   pub brackets_room : a.brackets.room ≡ 2 * a.room
+  pub touched_used : a.touched.used ≡ length a.owners.items
+  pub touched_room : a.touched.room ≡ a.room
   pub labelled : AreInOrder a.brackets.marks a.brackets.labels
   pub sound : AreSound (traces_of a).columns

@@ -6,3 +6,5 @@ pub record Traces : Type 0 where
   pub columns : ColumnTable
   -- the label of each mark
   pub labels : List ℕ
+  -- the columns that the last fork, split or merge touched
+  pub touched : List ℕ

@@ -1,10 +1,12 @@
-ghost use Rattle.std.specs.Prelude.{◌≡◌, ℕ, ◌+◌, ◌<◌, ◌≤◌, ◌==◌, ◌||◌, ◌⊎◌, ◌^◌, [], true, false, IfOk, length, filter, not, slice_index, vec_len, vec_capacity};
+ghost use Rattle.std.specs.Prelude.{◌≡◌, ℕ, ◌+◌, ◌<◌, ◌≤◌, ◌==◌, ◌||◌, ◌⊎◌, ◌^◌, ◌/◌, [], true, false, IfOk, length, filter, not, slice_index, vec_len, vec_capacity};
 ghost use Rattle.std.specs.Option.{ForSome};
 ghost use Rattle.cw_tree.specs.Walks.{has};
 ghost use Rattle.cw_trace.specs.Columns.{stands_before, opening_mark, closing_mark, marks, place_after, is_mark_of};
 ghost use Rattle.cw_trace.specs.Labels.{AreInOrder};
+ghost use Rattle.cw_trace.specs.Listing.{Grows, KeepsLabels};
 ghost use Rattle.cw_trace.specs.Marks.{with_mark};
 
+use crate::touched::{Touched, list_marks};
 use cw_base::{OutOfMemory, put};
 use cw_order::{OrderList, Steps};
 use std::alloc::Global;
@@ -68,6 +70,8 @@ impl Brackets {
         ensures marks { self.new.marks ≡ with_mark at mark self.old.marks }
         ensures room { self.new.room ≡ self.old.room }
         ensures labels { AreInOrder self.new.marks self.new.labels }
+        ensures kept { (m : ℕ) → has self.old.marks m ≡ true
+            → (has self.new.renumbered m ≡ true) ⊎ (slice_index self.new.labels m ≡ slice_index self.old.labels m) }
     {
         let place = match at {
             Some(other) => Some(self.elements[other as usize]),
@@ -89,6 +93,7 @@ impl Brackets {
         ensures marks { self.new.marks ≡ filter (λ m. not (m == mark)) self.old.marks }
         ensures room { self.new.room ≡ self.old.room }
         ensures labels { AreInOrder self.new.marks self.new.labels }
+        ensures same { self.new.labels ≡ self.old.labels }
     {
         self.order.remove(self.elements[mark as usize]);
     }
@@ -111,9 +116,18 @@ impl Brackets {
         self.order.label(self.elements[mark as usize])
     }
 
+    /// Lists the columns whose marks the last insertion gave new labels.
+    fn list_renumbered(&self, touched: &mut Touched)
+        ensures grows { Grows touched.old touched.new }
+        ensures there { (m : ℕ) → has self.now.renumbered m ≡ true → m / 2 < touched.old.used
+            → has touched.new.columns (m / 2) ≡ true }
+    {
+        list_marks(touched, self.marks.as_slice(), self.order.renumbered());
+    }
+
     /// Inserts the brackets of both traces of a split fork right after the opening mark of `trace`: first those of the left trace,
-    /// then those of the right one.
-    pub(crate) fn open_both(&mut self, trace: u32, fork: u32)
+    /// then those of the right one. Lists the columns whose labels change.
+    pub(crate) fn open_both(&mut self, trace: u32, fork: u32, touched: &mut Touched)
         requires around { has self.old.marks (opening_mark trace) ≡ true }
         requires new_left { (has self.old.marks (opening_mark fork) ≡ false)
             × (has self.old.marks (closing_mark fork) ≡ false) }
@@ -126,12 +140,18 @@ impl Brackets {
         ensures marks { self.new.marks ≡ place_after (opening_mark trace) (marks fork) self.old.marks }
         ensures room { self.new.room ≡ self.old.room }
         ensures labels { AreInOrder self.new.marks self.new.labels }
+        ensures grows { Grows touched.old touched.new }
+        ensures kept { KeepsLabels self.old.marks touched.new self.old.labels self.new.labels }
     {
         let left = 2 * fork;
         self.insert(Some(2 * trace), left);
+        self.list_renumbered(touched);
         self.insert(Some(left), left + 1);
+        self.list_renumbered(touched);
         self.insert(Some(left + 1), left + 2);
+        self.list_renumbered(touched);
         self.insert(Some(left + 2), left + 3);
+        self.list_renumbered(touched);
     }
 
     /// Removes the brackets of both traces of a split fork.
@@ -145,6 +165,7 @@ impl Brackets {
             ≡ filter (λ b. not (is_mark_of fork b || is_mark_of (fork + 1) b)) self.old.marks }
         ensures room { self.new.room ≡ self.old.room }
         ensures labels { AreInOrder self.new.marks self.new.labels }
+        ensures same { self.new.labels ≡ self.old.labels }
     {
         let left = 2 * fork;
         self.remove(left);

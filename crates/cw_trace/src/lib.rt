@@ -17,6 +17,7 @@ mod hands;
 mod queries;
 mod reads;
 mod tier;
+mod touched;
 mod verdict;
 
 pub use asks::told_laws;

@@ -1,10 +1,14 @@
-ghost use Rattle.std.specs.Prelude.{◌≡◌, ◌^◌, map, ℕ, ◌<◌, ◌≤◌, ◌+◌, ◌%◌, ◌++◌, ◌∷◌, [], true, false, Option, Some, None, length, IsErr, IfOk, IfErr, OnOk, OnErr, vec_len, vec_capacity, slice_get, slice_index};
+ghost use Rattle.std.specs.Prelude.{◌≡◌, ◌^◌, map, ℕ, ◌<◌, ◌≤◌, ◌+◌, ◌%◌, ◌++◌, ◌∷◌, [], true, false, Option, Some, None, length, IsErr, IfOk, IfErr, OnOk, OnErr, vec_len, vec_capacity, nat_eq, slice_get, slice_index};
 ghost use Rattle.cw_trace.specs.Columns as columns;
+ghost use Rattle.std.specs.List.{IsDistinct};
+ghost use Rattle.cw_tree.specs.Walks.{has};
 ghost use Rattle.cw_trace.specs.Labels.{AreLabels, full_row};
+ghost use Rattle.cw_trace.specs.Touched.{AreTouched};
 
 mod reader;
 
 use crate::brackets::Brackets;
+use crate::touched::Touched;
 use cw_base::{OutOfMemory, put};
 use cw_order::Steps;
 pub use reader::TierReader;
@@ -53,6 +57,7 @@ pub struct Tier {
     traces: Vec<Option<Trace>>,
     outers: Vec<Option<u32>>,
     brackets: Brackets,
+    touched: Touched,
 }
 
 impl Model for Tier {
@@ -206,6 +211,7 @@ impl Tier {
         let mut brackets = Brackets::with_room(alloc, 2 * m)?;
         brackets.insert(None, 0);
         brackets.insert(Some(0), 1);
+        let touched = Touched::with_room(alloc, m)?;
         Ok(Tier {
             room: m,
             owners,
@@ -214,6 +220,7 @@ impl Tier {
             traces,
             outers,
             brackets,
+            touched,
         })
     }
 
@@ -255,6 +262,15 @@ impl Tier {
             opening,
             closing,
         }
+    }
+
+    /// Returns the columns that the last fork, split or merge touched: those that it took into use, and those whose row it changed.
+    pub fn touched(&self) -> &[u32]
+        ensures value { result.now ≡ self.now.touched }
+        ensures distinct { IsDistinct nat_eq result.now }
+        ensures low { (i : ℕ) → has result.now i ≡ true → i < columns.used self.now.columns }
+    {
+        self.touched.as_slice()
     }
 
     /// Returns whether `trace` lies inside `outer`.
@@ -321,6 +337,7 @@ impl Tier {
         ensures inline { OnErr result (self.old.columns.room < columns.used self.old.columns + 2) }
         ensures err { OnErr result (self.new ≡ self.old) }
         ensures labels { AreLabels self.new.columns self.new.labels }
+        ensures touched { OnOk result (AreTouched self.old self.new) }
         ensures keeps { ForkKeeps word parent self.old.columns self.new.columns }
     {
         self.fork_columns(word, parent)
@@ -337,6 +354,7 @@ impl Tier {
             (λ e. columns.before_split self.old.columns fork ≡ Some e.before) }
         ensures err { OnErr result (self.new ≡ self.old) }
         ensures labels { AreLabels self.new.columns self.new.labels }
+        ensures touched { OnOk result (AreTouched self.old self.new) }
         ensures keeps { OnOk result (SplitKeeps fork self.old.columns self.new.columns) }
         ensures allowed { OnOk result (NoneBars fork self.old.columns) }
         ensures barred { IfErr result (λ e. NextBars fork e.before self.old.columns) }
@@ -351,6 +369,7 @@ impl Tier {
         requires split { columns.is_trace self.old.columns fork ≡ true }
         ensures merged { self.new.columns ≡ columns.merged fork self.old.columns }
         ensures labels { AreLabels self.new.columns self.new.labels }
+        ensures touched { AreTouched self.old self.new }
         ensures keeps { MergeKeeps fork self.old.columns self.new.columns }
     {
         self.merge_columns(fork);
@@ -367,6 +386,7 @@ impl Tier {
         ensures inline { OnErr result (self.old.columns.room < columns.used self.old.columns + 2) }
         ensures err { OnErr result (self.new ≡ self.old) }
         ensures labels { AreLabels self.new.columns self.new.labels }
+        ensures touched { OnOk result (AreTouched self.old self.new) }
     {
         let used = self.owners.len();
         if (self.room as usize) < used + 2 {
@@ -385,6 +405,7 @@ impl Tier {
         put_pair(&mut self.parents, parent);
         put_pair(&mut self.traces, None);
         put_pair(&mut self.outers, outer);
+        self.touched.list_pair();
         Ok((left, left + 1))
     }
 
@@ -399,6 +420,7 @@ impl Tier {
             (λ e. columns.before_split self.old.columns fork ≡ Some e.before) }
         ensures err { OnErr result (self.new ≡ self.old) }
         ensures labels { AreLabels self.new.columns self.new.labels }
+        ensures touched { OnOk result (AreTouched self.old self.new) }
     {
         if let Some(before) = self.before_split(fork) {
             return Err(Early { before });
@@ -408,6 +430,8 @@ impl Tier {
         let row = row_of(self.traces.as_slice(), trace);
         let lead = kept_lead(row.lead, gap);
         let above = around_new(lead, trace, row.up);
+        self.touched
+            .list_change(self.owners.as_slice(), trace, fork, trace, trace);
         part(self.owners.as_mut_slice(), trace, fork);
         self.gaps[fork as usize + 1] = fork + 1;
         self.traces[trace as usize] = Some(Trace {
@@ -425,7 +449,7 @@ impl Tier {
             lead: Some(fork + 1),
             up: above,
         });
-        self.brackets.open_both(trace, fork);
+        self.brackets.open_both(trace, fork, &mut self.touched);
         Ok(())
     }
 
@@ -436,9 +460,12 @@ impl Tier {
         requires split { columns.is_trace self.old.columns fork ≡ true }
         ensures merged { self.new.columns ≡ columns.merged fork self.old.columns }
         ensures labels { AreLabels self.new.columns self.new.labels }
+        ensures touched { AreTouched self.old self.new }
     {
         let trace = self.owners[self.parents[fork as usize] as usize];
         let row = row_of(self.traces.as_slice(), trace);
+        self.touched
+            .list_change(self.owners.as_slice(), trace, fork, fork, fork + 1);
         put_back(self.owners.as_mut_slice(), trace, fork);
         self.traces[trace as usize] = Some(Trace {
             head: row.head,

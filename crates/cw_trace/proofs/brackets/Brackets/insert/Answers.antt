@@ -1,5 +1,7 @@
-use Rattle.std.proofs.Common.{◌<◌, length, refl, ap, ◌∙◌, arith}
+use Rattle.std.proofs.Common.{◌≡◌, ◌<◌, true, length, refl, ap, ◌∙◌, arith, get_or, inl, inr}
 use Rattle.std.specs.Vec.{with_item}
+use Rattle.std.specs.Option.{ForSome}
+use Rattle.cw_trace.specs.Brackets.{marks_of}
 use Rattle.cw_tree.specs.Walks.{has}
 use Rattle.cw_trace.specs.declared.brackets.Brackets.TheInside.{Inside}
 use Rattle.cw_trace.specs.Marks.{with_mark}
@@ -54,3 +56,12 @@ returns-clause-marks c = (is_inserted c).marks ∙ ap (with_mark c.args.at c.arg
 
 pub returns-clause-labels : goal.returns-clause-labels
 returns-clause-labels c = in_order _ (is_inserted c).kept
+
+pub returns-clause-kept : goal.returns-clause-kept
+returns-clause-kept c = λ m h.
+    (let r = is_reached c in
+    let seen = r.marks ∙ ap (λ s. s.marks) c.self.view_is in
+    let some : ForSome c.args.at (λ b. has (marks_of (record { order = c.self.inside.order; elements = c.reach.new.list; marks = c.reach-in-Ok.new.list })).marks b ≡ true) = λ b e. ap (λ ms. has ms b) seen ∙ c.requires.at b e in
+    let there = ap (λ ms. has ms m) seen ∙ h in
+    let was = r.labels m (ap (λ s. has s.marks m) c.self.view_is ∙ h) ∙ ap (λ s. get_or s.labels m 0) c.self.view_is in
+    elim ((is_inserted c).labels some c.in-Ok.ensures.kept m there) [ inl z ↦ inl z | inr z ↦ inr (z ∙ was) ])

@@ -1,10 +1,11 @@
-use Rattle.std.proofs.Common.{◌≡◌, ◌≢◌, ◌+◌, ◌<◌, ◌∷◌, [], ℕ, List, length, ap, sym, ◌∙◌, refl, true, false, arith, subst}
+use Rattle.std.proofs.Common.{◌≡◌, ◌≢◌, ◌+◌, ◌<◌, ◌∷◌, [], ℕ, List, length, ap, sym, ◌∙◌, refl, true, false, arith, subst, inr}
 use Rattle.std.specs.Prelude.{◌*◌, ◌||◌}
-use Rattle.std.proofs.lemmas.Bool.{ne_eqb}
+use Rattle.std.proofs.lemmas.Bool.{ne_eqb, or_right}
 use Rattle.cw_tree.specs.Walks.{has}
 use Rattle.cw_trace.specs.Columns.{place_after}
 use Rattle.cw_trace.proofs.Marks.FourMarks.{Stage, stage_has, stage_length, stage_more, next_opening, next_closing}
 use Rattle.cw_trace.proofs.Marks.Numbering.{has_here, has_later}
+use Rattle.cw_trace.proofs.Touching.{grows_more, keeps_more}
 use Rattle.cw_trace.proofs.brackets.Brackets.open_both.Goals as goal
 
 -- the marks of the fork, as they are counted up
@@ -41,6 +42,10 @@ module _ (a f : ℕ) (xs : List ℕ) (new : New f xs) where
 
 is_there : (a : ℕ) (ms xs ys : List ℕ) → Stage a ms xs ys → (b : ℕ) → has ms b ≡ true → has ys b ≡ true
 is_there a ms xs ys s b h = stage_has a ms xs ys s b ∙ ap (λ z. z || has xs b) h
+
+-- a mark that was there still is
+still : (a : ℕ) (ms xs ys : List ℕ) → Stage a ms xs ys → (b : ℕ) → has xs b ≡ true → has ys b ≡ true
+still a ms xs ys s b h = stage_has a ms xs ys s b ∙ or_right (has ms b) (has xs b) h
 
 not_there : (a : ℕ) (ms xs ys : List ℕ) → Stage a ms xs ys → (b : ℕ) → has ms b ≡ false → has xs b ≡ false → has ys b ≡ false
 not_there a ms xs ys s b h g = stage_has a ms xs ys s b ∙ ap (λ z. z || has xs b) h ∙ g
@@ -127,3 +132,20 @@ returns-clause-marks c =
     (stage4 a f xs n w v s c.insert-4.ensures.marks).are
     ∙ ap (λ k. place_after a (2 * f ∷ (2 * f + 1) ∷ k ∷ (2 * f + 3) ∷ []) xs) (next_opening f)
     ∙ ap (λ k. place_after a (2 * f ∷ (2 * f + 1) ∷ (2 * (f + 1)) ∷ k ∷ []) xs) (next_closing f)
+
+pub returns-clause-grows : goal.returns-clause-grows
+returns-clause-grows c =
+    grows_more _ _ _ c.list_renumbered.ensures.grows (grows_more _ _ _ c.list_renumbered-2.ensures.grows (grows_more _ _ _ c.list_renumbered-3.ensures.grows c.list_renumbered-4.ensures.grows))
+
+pub returns-clause-kept : goal.returns-clause-kept
+returns-clause-kept c =
+    let f = c.args.fork in let xs = c.args.self.now.marks in let a = 2 * c.args.trace in
+    let n = new_of f xs c.requires.new_left c.requires.new_right in
+    let y = c.insert.new.self.marks in let z = c.insert-2.new.self.marks in let w = c.insert-3.new.self.marks in
+    let s1 = stage1 a f xs n y c.requires.around c.insert.ensures.marks in
+    let s2 = stage2 a f xs n y z s1 c.insert-2.ensures.marks in
+    let s3 = stage3 a f xs n z w s2 c.insert-3.ensures.marks in
+    let k1 = keeps_more xs xs _ _ c.args.self.now.labels c.args.self.now.labels c.insert.new.self.labels c.insert.new.self.renumbered (λ m h. h) c.list_renumbered.ensures.grows (λ m h low. inr refl) c.insert.ensures.kept c.list_renumbered.ensures.there in
+    let k2 = keeps_more xs y _ _ c.args.self.now.labels c.insert.new.self.labels c.insert-2.new.self.labels c.insert-2.new.self.renumbered (still a (2 * f ∷ []) xs y s1) c.list_renumbered-2.ensures.grows k1 c.insert-2.ensures.kept c.list_renumbered-2.ensures.there in
+    let k3 = keeps_more xs z _ _ c.args.self.now.labels c.insert-2.new.self.labels c.insert-3.new.self.labels c.insert-3.new.self.renumbered (still a (2 * f ∷ (2 * f + 1) ∷ []) xs z s2) c.list_renumbered-3.ensures.grows k2 c.insert-3.ensures.kept c.list_renumbered-3.ensures.there in
+    keeps_more xs w _ _ c.args.self.now.labels c.insert-3.new.self.labels c.insert-4.new.self.labels c.insert-4.new.self.renumbered (still a (2 * f ∷ (2 * f + 1) ∷ (2 * f + 2) ∷ []) xs w s3) c.list_renumbered-4.ensures.grows k3 c.insert-4.ensures.kept c.list_renumbered-4.ensures.there

@@ -36,6 +36,8 @@ invariant_of-result c =
       traces_room = traces.capacity;
       outers_room = outers.capacity;
       brackets_room = search rules;
+      touched_used = c.in_ok-touched.ensures.used ∙ one;
+      touched_room = c.in_ok-touched.ensures.room;
       labelled = c.insert-2.ensures.labels;
       sound = sound _ owners.items gaps.items parents.items traces.items (search rules) outers.items;
     }
