@@ -135,7 +135,7 @@ items_alike : (g : Scope) (n : ℕ) (ds : List Declaration) → Alike (in_items 
 items_alike g n [] = itself None
 items_alike g n (cell x l len z ∷ ds) =
     then_alike (record { is = declared_alike (find x g) 1 l })
-    (then_alike (record { is = if_alike (nat_lt 4096 (n + elements len)) kind.TooManyCells 1 l }) (items_alike ((x, cell_thing len) ∷ g) (n + elements len) ds))
+    (then_alike (record { is = if_alike (nat_lt 65536 (n + elements len)) kind.TooManyCells 1 l }) (items_alike ((x, cell_thing len) ∷ g) (n + elements len) ds))
 items_alike g n (func x l ps b ∷ ds) =
     then_alike (record { is = declared_alike (find x g) 1 l })
     (subst (λ k. Alike (in_items ((x, a_function k) ∷ g) n (tree_without_lines ds)) (in_items ((x, a_function (length ps)) ∷ g) n ds)) (sym (same_length ps))
