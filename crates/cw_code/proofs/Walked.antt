@@ -6,25 +6,20 @@ use Rattle.std.proofs.Math.Seq.{get_or-append_seam}
 use Rattle.std.proofs.lemmas.Bool.{ltb-false, eqb-true, cases_order}
 use Rattle.std.proofs.lemmas.Bool.Decides.{eqb_tells}
 use Rattle.cw_code.specs.declared.instruction.CodeKind.TheVariants.{Underflow, Uneven, NoEnd}
-use Rattle.cw_code.specs.declared.instruction.CodeFault.{CodeFault}
 use Rattle.cw_code.specs.declared.instruction.Instr.{Instr}
 use Rattle.cw_code.specs.declared.instruction.Func.{Func}
 use Rattle.cw_code.specs.declared.instruction.Code.{Code}
 use Rattle.cw_code.specs.declared.situation.Level.{Level}
 use Rattle.cw_code.specs.Table.{Effect, push, local, set, load, load_at, store, store_at, lift, join, jump, jump_zero, call, ret, drop_top, out, begin, end, fork, sync, done, tick, cancel}
-use Rattle.cw_code.specs.Rules.{Situation, effect_of, pops, when, earliest, operand_faults, faults_here, passed, jumps, never_passed, if_inside, natural, target_of, size_of, places, place_faults, is_border, is_torn}
+use Rattle.cw_code.specs.Rules.{Situation, effect_of, pops, when, operand_faults, faults_here, passed, jumps, never_passed, if_inside, natural, target_of, size_of, places, place_faults, is_border, is_torn}
 use Rattle.cw_code.specs.Nested.{Nested, IsGrown, parts_at, situation_at}
 use Rattle.cw_code.specs.Walked.{walked, Stands, level_of, level_jumped, IsWalked, AllLead}
-use Rattle.cw_code.proofs.Fold.{none_found, target_inside}
+use Rattle.cw_code.proofs.Fold.{target_inside}
 use Rattle.cw_code.proofs.Sound.{when_not, not_false, nil_left, nil_right}
 use Rattle.cw_code.proofs.Seen.{situation_grown}
 use Rattle.cw_code.proofs.Expected.{Fits, FitsAt, AllFit, next_behind}
 use Rattle.cw_code.proofs.Passes.{none_at_places}
 use Rattle.cw_code.proofs.Walk.{expected, at_first, expected_behind}
-
--- where no fault was noted, there was none
-pub nothing_operand : (xs : List CodeFault) → earliest None xs ≡ None → xs ≡ []
-nothing_operand xs e = none_found xs e
 
 -- what keeps each rule in its own situation has no fault there
 pub nothing_here : (c : Code) (f : Func) (p : ℕ) (i : Instr) (e : Option Effect) (s : Situation) → nat_lt s.height (pops c i e) ≡ false → (is_border e && not (s.height == 0)) ≡ false → is_torn e s ≡ false → (not (never_passed e) && (p + 1 == f.end)) ≡ false → faults_here c f p i e s ≡ []

@@ -1,4 +1,4 @@
-ghost use Rattle.std.specs.Prelude.{◌≡◌, ◌+◌, ◌==◌, ◌-◌, ◌<◌, ◌^◌, length, slice_get, Some, IfOk};
+ghost use Rattle.std.specs.Prelude.{◌≡◌, ◌+◌, ◌==◌, true, [], ◌-◌, ◌<◌, ◌^◌, length, slice_get, Some, IfOk};
 ghost use Rattle.cw_code.specs.Rules.{earlier, earliest, when, kind_number, is_number_below, cells_below, inside, is_target, is_tick, operand_faults, effect_of, called, pops, pushes, parts_after, passed, onwards, never_passed, jumps, is_border, is_torn, next_of, target_of, if_inside, natural, faults_here};
 ghost use Rattle.cw_code.specs.Nested.{parts_at, situation_at, IsGrown};
 ghost use Rattle.cw_code.specs.Table.{effect_at, taken, left_there};
@@ -98,6 +98,30 @@ pub fn has_target(code: &Code, func: &Func, place: u32, a: i64) -> bool
             }
         }
         Err(_) => false,
+    }
+}
+
+/// Whether the operands of an instruction name what there is.
+pub fn names_well(
+    code: &Code,
+    func: &Func,
+    place: u32,
+    instr: Instr,
+    effect: Option<Effect>,
+) -> bool
+    ensures { result ≡ true → operand_faults code.now func.now place instr effect ≡ [] }
+{
+    let effect = match effect {
+        None => return false,
+        Some(effect) => effect,
+    };
+    match effect {
+        Effect::Local | Effect::Set => is_below(instr.a, func.locals as usize),
+        Effect::Load | Effect::Store => is_below(instr.a, code.cells as usize),
+        Effect::LoadAt | Effect::StoreAt => are_below(instr.a, instr.b, code.cells),
+        Effect::Jump | Effect::JumpZero | Effect::Fork => { has_target(code, func, place, instr.a) }
+        Effect::Call => is_below(instr.a, code.funcs.len()),
+        _ => true,
     }
 }
 

@@ -12,7 +12,7 @@ use cw_base::OutOfMemory;
 use std::alloc::Global;
 
 /// Whether an instruction that pops `count` numbers breaks no rule at `place`, whatever its ways lead to.
-#[tactic(auto, using(crate::proofs::Walked::nothing_operand, crate::proofs::Walked::nothing_here))]
+#[tactic(auto, using(crate::proofs::Walked::nothing_here))]
 fn stands_well(
     nestings: &Nestings,
     code: &Code,
@@ -35,7 +35,7 @@ fn stands_well(
     if few || border || torn || last {
         return false;
     }
-    judging::operand(None, code, func, place, instr, effect).is_none()
+    judging::names_well(code, func, place, instr, effect)
 }
 
 /// The level behind an instruction that pops `count` numbers.
@@ -105,7 +105,7 @@ fn walk(
     requires nothing { nestings.old ≡ [] ∷ [] }
     ensures { IfOk result (λ r. IfSome r (λ t. IsWalked code.now func.now nestings.new t.items (size_of func.now))) }
 {
-    let mut levels = Vec::new(alloc);
+    let mut levels = Vec::with_capacity(alloc, (func.end - func.start) as usize)?;
     let mut level = Level {
         height: 0,
         nesting: 0,
