@@ -402,6 +402,48 @@ for words in '--report 2' '--report 0' '--report -1' '--report' '--report= ' '--
   try "run $words" 2 '' "$usage" run $words
 done
 
+# ## Sheets
+
+# kept SOURCE STATUS END WORD..: the sheet of this source ends in the lines END, with `~` for a newline
+kept() {
+  local source=$1 status=$2 end=$3 got
+  shift 3
+  printf '%s' "$source" > source
+  timeout 60 "$program" keep "$@" < source > sheet 2> note
+  got=$?
+  head -n 1 sheet > text
+  tail -n "$(printf '%s' "$end" | tr -cd '~' | wc -c)" sheet >> text
+  judge "keep $* of $source" "$got" "$status" $'cwstm record 1\n'"$(printf '%s' "$end" | tr '~' '\n')"$'\n' ''
+}
+
+printf 'cell c; fn main() { c = c + 1; out c; }' > source
+try 'the sheet of one worker' 0 "$(cat "$root/outside/sheets/P.sheet")"$'\n' '' keep --workers 1
+printf '// a remark\ncell   c;fn main ( ) {c=c+1;out c;}' > source
+try 'the source in a sheet is canonical' 0 "$(cat "$root/outside/sheets/P.sheet")"$'\n' '' keep --workers 1
+kept 'fn main() {}' 0 'words~limits 1000000 1000000 100000 262144 10000000~nodes 1~strand 0~conflicts 0~finished~memory~outputs~end record~'
+kept 'fn main(a, b) { out a - b; }' 0 'words 7 -5~limits 1000000 1000000 100000 262144 10000000~nodes 2~strand 0~out 0 1 12~conflicts 0~finished~memory~outputs 12~end record~' -- 7 -5
+kept 'fn main() {}' 0 'words~limits 3 4 5 6 10000000~nodes 1~strand 0~conflicts 0~finished~memory~outputs~end record~' --fuel 3 --size 4 --aborts 5 --strands 6 --workers 64
+kept 'cell c; fn main() { c = 1; c = 2; }' 6 'conflicts 0~fault 0 Fuel~end record~' --fuel 1
+kept 'cell c; fn main() { spawn { atomic { c = c + 1; } } c = 1 / c; }' 0 'finished~memory 1~outputs~end record~' --workers 1
+kept 'cell c; fn main() { let i = 0; while i < 1000 { spawn { atomic { c = c + 1; } } i = i + 1; } }' 0 'finished~memory 1000~outputs~end record~'
+printf 'fn main( {}' > source
+try 'the sheet of a source that is refused' 5 '' $'cwstm: line 1: Unexpected\n' keep
+printf 'language 2; cell c; fn main() { atomic { cancel; } }' > source
+try 'the sheet of a source in the second language' 5 '' $'cwstm: line 1: Unexpected\n' keep
+printf 'fn main(a, b) {}' > source
+try 'a sheet with a word too few' 2 '' "$usage" keep 7
+for words in '--report 1' '--moves 5' '--seed 1' '--schedule 0' 'x' '--workers 65' '--fuel 1 --fuel 1'; do
+  # the words stand apart by blanks
+  # shellcheck disable=SC2086
+  try "keep $words" 2 '' "$usage" keep $words
+done
+printf 'fn main() {}' > source
+: > text
+"$program" keep < source > /dev/full 2> note
+judge 'a sheet to a full device' $? 4 '' $'cwstm: write fault\n'
+"$program" keep <&- > text 2> note
+judge 'a sheet where nothing can be read' $? 3 '' $'cwstm: read fault\n'
+
 # ## Reading and writing that fail
 
 printf 'cell c; fn main() { c = c + 1; out c; }' > source

@@ -6,12 +6,12 @@ use Rattle.cw_record.specs.declared.record_end.RecordEnd.{RecordEnd}
 use Rattle.cw_record.specs.declared.record_end.RecordEnd.TheVariants.{Finished, Fault, Budget, Moves}
 use Rattle.cw_record.specs.Records.{IsReplayed}
 use Rattle.cw_words.specs.declared.command.Command.{Command}
-use Rattle.cw_words.specs.declared.command.Command.TheVariants.{Run, Sim, Load}
+use Rattle.cw_words.specs.declared.command.Command.TheVariants.{Run, Sim, Load, Keep}
 use Rattle.cw_top.specs.declared.outcome.Note.{Note}
 use Rattle.cw_top.specs.declared.outcome.Note.TheVariants as note
 use Rattle.cw_top.specs.Outcome.{IsStatus, status_of_end}
 use Rattle.cw_top.specs.Runs.{HasSeveralThreads, IsDoneAs, IsDoneBy, IsReady}
-use Rattle.cw_top.specs.Written.{Writes, text_of_command, text_owed}
+use Rattle.cw_top.specs.Written.{Writes, text_owed}
 use Rattle.cw_top.proofs.Statuses.{thread_differs}
 
 no_eight : (e : RecordEnd) (status : ℕ) → status ≡ status_of_end e → status ≢ 8
@@ -46,17 +46,17 @@ eight kept status (note.Name f) (none, is) e = cc
 pub disagrees : (kept : Option Record) (status : ℕ) (n : Note) → IsStatus kept status n → status ≡ 8 → IsSomeAnd kept (λ r. IsReplayed r → ⊥)
 disagrees kept status n is e = (eight kept status n is e).1
 
-nothing_owed : (command : Option Command) (kept : Option Record) (n : Note) (old new : Option (List ℕ)) → Writes (text_owed (text_of_command command) kept 8) n old new → Appends old new []
-nothing_owed command None n old new written = written
-nothing_owed command (Some r) n old new written = written
+nothing_owed : (kept : Option Record) (text : List ℕ) (n : Note) (old new : Option (List ℕ)) → Writes (text_owed kept 8 text) n old new → Appends old new []
+nothing_owed None text n old new written = written
+nothing_owed (Some r) text n old new written = written
 
-pub silent : (command : Option Command) (kept : Option Record) (status : ℕ) (n : Note) (old new : Option (List ℕ)) → IsStatus kept status n → Writes (text_owed (text_of_command command) kept status) n old new → status ≡ 8 → (n ≡ note.Nothing) × Appends old new []
-silent command kept status n old new is written e =
-    ((eight kept status n is e).0, nothing_owed command kept n old new (subst (λ s. Writes (text_owed (text_of_command command) kept s) n old new) e written))
+pub silent : (kept : Option Record) (status : ℕ) (n : Note) (text : List ℕ) (old new : Option (List ℕ)) → IsStatus kept status n → Writes (text_owed kept status text) n old new → status ≡ 8 → (n ≡ note.Nothing) × Appends old new []
+silent kept status n text old new is written e = ((eight kept status n is e).0, nothing_owed kept text n old new (subst (λ s. Writes (text_owed kept s text) n old new) e written))
 
 by_command : (co : Command) (r : Record) → IsReady co → IsDoneBy co r → (IsReplayed r → ⊥) → HasSeveralThreads (Some co)
 by_command (Run ws ls w p) r ready done differs = thread_differs w r ready.0 done differs
 by_command (Load tr w) r ready done differs = thread_differs w r ready.0 done differs
+by_command (Keep ws ls w) r ready done differs = thread_differs w r ready.0 done differs
 by_command (Sim ws ls w s p) r ready done differs = absurd (differs done.replays)
 
 by_kept : (command : Option Command) (kept : Option Record) → IfSome command IsReady → IfSome kept (IsDoneAs command) → IsSomeAnd kept (λ r. IsReplayed r → ⊥) → HasSeveralThreads command

@@ -1,8 +1,9 @@
 -- All is true of the run of a command that is said of one.
-use Rattle.std.proofs.Common.{◌≡◌, ◌≢◌, ℕ, ℤ, List, length, Option, Result, Ok, Err, IfOk, subst, sym}
+use Rattle.std.proofs.Common.{◌≡◌, ◌≢◌, ℕ, ℤ, List, length, Option, Some, None, Result, Ok, Err, IfOk, subst, sym}
 use Rattle.cw_base.specs.declared.OutOfMemory.{OutOfMemory}
+use Rattle.cw_text.specs.Syntax.{Declaration, Source}
 use Rattle.cw_code.specs.declared.program.Program.{Program}
-use Rattle.cw_strand.specs.Programs.{IsCompiled}
+use Rattle.cw_strand.specs.Programs.{IsCompiled, IsProgramOf}
 use Rattle.cw_tree.specs.Walks.{IsNumbered}
 use Rattle.cw_job.specs.Jobs.{TakesWords}
 use Rattle.cw_record.specs.declared.record.Record.{Record}
@@ -10,8 +11,19 @@ use Rattle.cw_record.specs.declared.record_end.RecordEnd.TheVariants.{Moves}
 use Rattle.cw_record.specs.Records.{HasItsOutputs, IsNumberedDepthFirst}
 use Rattle.cw_pool.specs.Recorded.{IsOfBoard, IsOfOneWorker}
 use Rattle.cw_words.specs.declared.command.Command.{Command}
-use Rattle.cw_top.specs.Runs.{IsItsProgram, IsOfThreads, IsRunBy}
+use Rattle.cw_words.specs.declared.command.Command.TheVariants.{Run, Sim, Load, Keep}
+use Rattle.cw_top.specs.Runs.{IsItsProgram, IsItsSource, IsOfThreads, IsRunBy}
 use Rattle.cw_words.specs.Words.{limits_of, words_of}
+
+-- what a command's syntax tree is compiled to is its program
+pub its_program : (co : Command) (left : Option (List ℕ)) (s : Source) (p : Program) → IsItsSource co left s → IsProgramOf s.items p → IsItsProgram co left p
+its_program (Load tr w) left s p its is = subst (λ (ds : List Declaration). IsProgramOf ds p) its is
+its_program (Run ws ls w rp) None s p its is = tt
+its_program (Run ws ls w rp) (Some bytes) s p its is = (s, (its, is))
+its_program (Sim ws ls w sc rp) None s p its is = tt
+its_program (Sim ws ls w sc rp) (Some bytes) s p its is = (s, (its, is))
+its_program (Keep ws ls w) None s p its is = tt
+its_program (Keep ws ls w) (Some bytes) s p its is = (s, (its, is))
 
 module _ (co : Command) (left : Option (List ℕ)) (p : Program) (its : IsItsProgram co left p) (compiled : IsCompiled p) (takes : TakesWords p (length (words_of co))) where
   pub is_run : (r : Record) → r.program ≡ p → r.words ≡ words_of co → r.limits ≡ limits_of co → HasItsOutputs r → IsNumbered r.tree → IsNumberedDepthFirst r.tree → IsRunBy co left r

@@ -6,7 +6,7 @@ use Rattle.cw_record.specs.declared.record_end.RecordEnd.{RecordEnd}
 use Rattle.cw_record.specs.declared.record_end.RecordEnd.TheVariants.{Finished, Fault, Budget, Moves}
 use Rattle.cw_record.specs.Records.{job_of_record}
 use Rattle.cw_words.specs.declared.command.Command.{Command}
-use Rattle.cw_words.specs.declared.command.Command.TheVariants.{Run, Sim, Load}
+use Rattle.cw_words.specs.declared.command.Command.TheVariants.{Run, Sim, Load, Keep}
 use Rattle.cw_top.specs.declared.outcome.Note.{Note}
 use Rattle.cw_top.specs.declared.outcome.Note.TheVariants as note
 use Rattle.cw_top.specs.Outcome.{IsStatus, IsStatusOf, status_of_end}
@@ -23,11 +23,13 @@ by_end Moves is = refl
 spent : (c : Command) (r : Record) → IsDoneBy c r → r.end ≡ Moves → HasSpentMoves (Some c) r
 spent (Run ws ls w p) r done e = done.moves e
 spent (Load tr w) r done e = done.moves e
+spent (Keep ws ls w) r done e = done.moves e
 spent (Sim ws ls w s p) r done e = (left_told (job_of_record r) w s r done.moves).0 e
 
 told : (c : Command) (r : Record) → IsDoneBy c r → HasSpentMoves (Some c) r → r.end ≡ Moves
 told (Run ws ls w p) r done e = absurd e
 told (Load tr w) r done e = absurd e
+told (Keep ws ls w) r done e = absurd e
 told (Sim ws ls w s p) r done e = (left_told (job_of_record r) w s r done.moves).1 e
 
 -- the moves of a simulation replay, whatever their end is
@@ -35,6 +37,7 @@ of_moves : (c : Command) (r : Record) (status : ℕ) → IsDoneBy c r → IsStat
 of_moves c r status done (inl (same, is)) h = is ∙ ap status_of_end (told c r done h)
 of_moves (Run ws ls w p) r status done (inr (other, is)) h = absurd h
 of_moves (Load tr w) r status done (inr (other, is)) h = absurd h
+of_moves (Keep ws ls w) r status done (inr (other, is)) h = absurd h
 of_moves (Sim ws ls w s p) r status done (inr (other, is)) h = absurd (other done.replays)
 
 to_moves : (c : Command) (r : Record) (status : ℕ) → IsDoneBy c r → IsStatusOf r status → status ≡ 9 → HasSpentMoves (Some c) r

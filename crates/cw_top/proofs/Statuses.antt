@@ -1,11 +1,9 @@
 -- What the statuses say, from the causes of the notes.
-use Rattle.std.proofs.Common.{◌≡◌, ◌≢◌, ◌<◌, ◌⊎◌, ◌++◌, inl, inr, List, length, ℕ, ℤ, Option, Some, None, IsSomeAnd, IfSome, refl, sym, ◌∙◌, subst, arith}
+use Rattle.std.proofs.Common.{◌≡◌, ◌≢◌, ◌<◌, ◌⊎◌, inl, inr, List, length, ℕ, ℤ, Option, Some, None, IsSomeAnd, IfSome, refl, sym, ◌∙◌, subst, arith}
 use Rattle.std.proofs.lemmas.Bool.{cases_lt}
 use Rattle.std.proofs.lemmas.Option.{same_Some}
 use Rattle.cw_io.specs.declared.schedule.Schedule.{Schedule}
 use Rattle.cw_io.specs.Outside.{Appends}
-use Rattle.cw_code.specs.declared.CellInfo.{CellInfo}
-use Rattle.cw_tree.specs.declared.node.Node.{Node}
 use Rattle.cw_tree.specs.declared.picks.Picks.{Picks}
 use Rattle.cw_tree.specs.Walks.{IsNumbered}
 use Rattle.cw_serial.specs.declared.ends.SerialEnd.{SerialEnd}
@@ -18,19 +16,16 @@ use Rattle.cw_record.specs.Records.{HasEnded, IsReplayed}
 use Rattle.cw_record.specs.Replay.{SameEnd}
 use Rattle.cw_record.proofs.Replay.OneRun.{same_end}
 use Rattle.cw_words.specs.declared.command.Command.{Command}
-use Rattle.cw_words.specs.declared.command.Command.TheVariants.{Run, Sim, Load}
+use Rattle.cw_words.specs.declared.command.Command.TheVariants.{Run, Sim, Load, Keep}
 use Rattle.cw_top.specs.declared.outcome.Note.{Note}
 use Rattle.cw_top.specs.declared.outcome.Note.TheVariants as note
 use Rattle.cw_top.specs.Refusals.{AsksFor, IsMisfit, Spells, refusal}
 use Rattle.cw_top.proofs.Budgets.{by_end}
 use Rattle.cw_top.proofs.Parameters.{fits, spelled_accepted}
-use Rattle.cw_report.specs.Results.{end_text, finished_text}
-use Rattle.cw_top.specs.declared.telling.Telling.{Telling}
-use Rattle.cw_top.specs.declared.telling.Telling.TheVariants.{Results, Summary}
 use Rattle.cw_top.specs.Outcome.{HasCause, IsCauseOfRun, IsCauseOfTelling, IsMisused, IsRefusedWith, IsStatus, IsStatusOf, IsSurelyMisused, IsSurelyRefused, MayBeMisusedWith, MayEndWith, status_of_end, FailsToRead}
 use Rattle.cw_top.specs.Runs.{HasSeveralWorkers, IsDoneAs, IsDoneBy, IsOfMoves, IsOfThreads, IsReady, IsRunOf}
 use Rattle.cw_top.specs.Taken.{Accepts, IsRefusedFor, IsRefusedIn}
-use Rattle.cw_top.specs.Written.{Writes, WritesEndOfOneMemory, end_of_one_memory, end_text_in, telling_of, load_text_of, report_if, summary_text, text_in, text_of_command, text_owed}
+use Rattle.cw_top.specs.Written.{IsTextBy, IsTextOf, Tells, Writes, WritesEndOfOneMemory, end_of_one_memory, text_owed}
 
 -- words that are no command come to status 2, or memory runs out
 of_none : (kept : Option Record) (status : ℕ) (n : Note) → (n ≡ note.Usage) ⊎ (n ≡ note.Memory) → IsStatus kept status n → (status ≡ 2) ⊎ (status ≡ 1)
@@ -46,7 +41,24 @@ pub memory_cause : (command : Option Command) (n : Note) (left : Option (List �
 memory_cause None n left r w is = inr is
 memory_cause (Some (Run ws ls wk p)) n left r w is = subst (λ m. IsCauseOfRun 1 ws m left r w) (sym is) tt
 memory_cause (Some (Sim ws ls wk sc p)) n left r w is = subst (λ m. IsCauseOfRun 2 ws m left r w) (sym is) tt
+memory_cause (Some (Keep ws ls wk)) n left r w is = subst (λ m. IsCauseOfRun 1 ws m left r w) (sym is) tt
 memory_cause (Some (Load tr wk)) n left r w is = subst (λ m. IsCauseOfTelling m w) (sym is) tt
+
+-- once there is a run, a command ends for the same causes as its telling
+run_cause : (l : ℕ) (words : List ℤ) (n : Note) (left : Option (List ℕ)) (r w : Type 0) → IsCauseOfTelling n w → IsCauseOfRun l words n left r w
+run_cause l words note.Nothing left r w cause = tt
+run_cause l words note.Usage left r w cause = absurd cause
+run_cause l words note.Memory left r w cause = tt
+run_cause l words note.Read left r w cause = absurd cause
+run_cause l words note.Write left r w cause = cause
+run_cause l words (note.Text f) left r w cause = absurd cause
+run_cause l words (note.Name f) left r w cause = absurd cause
+
+pub telling_cause : (co : Command) (n : Note) (left : Option (List ℕ)) (r w : Type 0) → IsCauseOfTelling n w → HasCause (Some co) n left r w
+telling_cause (Run ws ls wk p) n left r w cause = run_cause 1 ws n left r w cause
+telling_cause (Sim ws ls wk sc p) n left r w cause = run_cause 2 ws n left r w cause
+telling_cause (Load tr wk) n left r w cause = cause
+telling_cause (Keep ws ls wk) n left r w cause = run_cause 1 ws n left r w cause
 
 no_end : (e : RecordEnd) (status : ℕ) → status ≡ status_of_end e → (status ≢ 2) × (status ≢ 3) × (status ≢ 4) × (status ≢ 5)
 no_end (Finished m o) status is = (λ h. cc, λ h. cc, λ h. cc, λ h. cc)
@@ -94,6 +106,7 @@ pub usage : (command : Option Command) (kept : Option Record) (status : ℕ) (n 
 usage None kept status n left r w is cause h = tt
 usage (Some (Run ws ls wk p)) kept status n left r w is cause h = usage_of 1 ws kept status n left r w is cause h
 usage (Some (Sim ws ls wk sc p)) kept status n left r w is cause h = usage_of 2 ws kept status n left r w is cause h
+usage (Some (Keep ws ls wk)) kept status n left r w is cause h = usage_of 1 ws kept status n left r w is cause h
 usage (Some (Load tr wk)) kept status n left r w is cause h = (load_causes kept status n w is cause).0 h
 
 read_fault_of : (l : ℕ) (words : List ℤ) (kept : Option Record) (status : ℕ) (n : Note) (left : Option (List ℕ)) (r w : Type 0) → IsStatus kept status n → IsCauseOfRun l words n left r w → status ≡ 3 → r
@@ -109,6 +122,7 @@ pub read_fault : (command : Option Command) (kept : Option Record) (status : ℕ
 read_fault None kept status n left r w is cause h = absurd ((not_low status (of_none kept status n cause is)).0 h)
 read_fault (Some (Run ws ls wk p)) kept status n left r w is cause h = read_fault_of 1 ws kept status n left r w is cause h
 read_fault (Some (Sim ws ls wk sc p)) kept status n left r w is cause h = read_fault_of 2 ws kept status n left r w is cause h
+read_fault (Some (Keep ws ls wk)) kept status n left r w is cause h = read_fault_of 1 ws kept status n left r w is cause h
 read_fault (Some (Load tr wk)) kept status n left r w is cause h = absurd ((load_causes kept status n w is cause).1 h)
 
 write_fault_of : (l : ℕ) (words : List ℤ) (kept : Option Record) (status : ℕ) (n : Note) (left : Option (List ℕ)) (r w : Type 0) → IsStatus kept status n → IsCauseOfRun l words n left r w → status ≡ 4 → w
@@ -124,6 +138,7 @@ pub write_fault : (command : Option Command) (kept : Option Record) (status : �
 write_fault None kept status n left r w is cause h = absurd ((not_low status (of_none kept status n cause is)).1 h)
 write_fault (Some (Run ws ls wk p)) kept status n left r w is cause h = write_fault_of 1 ws kept status n left r w is cause h
 write_fault (Some (Sim ws ls wk sc p)) kept status n left r w is cause h = write_fault_of 2 ws kept status n left r w is cause h
+write_fault (Some (Keep ws ls wk)) kept status n left r w is cause h = write_fault_of 1 ws kept status n left r w is cause h
 write_fault (Some (Load tr wk)) kept status n left r w is cause h = load_writes kept status n w is cause h
 
 refused_of : (l : ℕ) (words : List ℤ) (kept : Option Record) (status : ℕ) (n : Note) (left : Option (List ℕ)) (r w : Type 0) → IsStatus kept status n → IsCauseOfRun l words n left r w → status ≡ 5 → IsRefusedIn l n left
@@ -139,6 +154,7 @@ pub refused : (command : Option Command) (kept : Option Record) (status : ℕ) (
 refused None kept status n left r w is cause h = absurd ((not_low status (of_none kept status n cause is)).2 h)
 refused (Some (Run ws ls wk p)) kept status n left r w is cause h = refused_of 1 ws kept status n left r w is cause h
 refused (Some (Sim ws ls wk sc p)) kept status n left r w is cause h = refused_of 2 ws kept status n left r w is cause h
+refused (Some (Keep ws ls wk)) kept status n left r w is cause h = refused_of 1 ws kept status n left r w is cause h
 refused (Some (Load tr wk)) kept status n left r w is cause h = absurd ((load_causes kept status n w is cause).2 h)
 
 -- ## Which statuses come
@@ -176,12 +192,15 @@ may_end (Run ws ls w p) x status ready done (inl (same, is)) = on_threads x.end 
 may_end (Run ws ls w p) x status ready done (inr (other, is)) = inr (inr (inr (inl (is, thread_differs w x ready.0 done other))))
 may_end (Load tr w) x status ready done (inl (same, is)) = on_threads x.end status w done.moves (thread_spends w x ready.0 done) is
 may_end (Load tr w) x status ready done (inr (other, is)) = inr (inr (inr (inl (is, thread_differs w x ready.0 done other))))
+may_end (Keep ws ls w) x status ready done (inl (same, is)) = on_threads x.end status w done.moves (thread_spends w x ready.0 done) is
+may_end (Keep ws ls w) x status ready done (inr (other, is)) = inr (inr (inr (inl (is, thread_differs w x ready.0 done other))))
 may_end (Sim ws ls w s p) x status ready done (inl (same, is)) = came x.end status w (move_spends w s x ready.0 done) is
 may_end (Sim ws ls w s p) x status ready done (inr (other, is)) = absurd (other done.replays)
 
 several_of : (co : Command) (r : Record) → IsReady co → IsDoneBy co r → (x : ℕ) → r.end ≡ Budget x → HasSeveralWorkers (Some co)
 several_of (Run ws ls w p) r ready done x e = thread_spends w r ready.0 done x e
 several_of (Load tr w) r ready done x e = thread_spends w r ready.0 done x e
+several_of (Keep ws ls w) r ready done x e = thread_spends w r ready.0 done x e
 several_of (Sim ws ls w s p) r ready done x e = move_spends w s r ready.0 done x e
 
 pub several : (command : Option Command) (kept : Option Record) (status : ℕ) (n : Note) → IsStatus kept status n → IfSome command IsReady → IfSome kept (IsDoneAs command) → status ≡ 7 → HasSeveralWorkers command
@@ -199,6 +218,7 @@ several command kept status (note.Name f) (none, is) ready done seven = absurd (
 may_want : (co : Command) (status : ℕ) → status ≡ 1 → MayEndWith (Some co) status
 may_want (Run ws ls w p) status is = inr (inr (inr (inr is)))
 may_want (Load tr w) status is = inr (inr (inr (inr is)))
+may_want (Keep ws ls w) status is = inr (inr (inr (inr is)))
 may_want (Sim ws ls w s p) status is = inr (inr (inr (inr is)))
 
 -- running out of memory may end any command
@@ -241,6 +261,8 @@ misused (Some (Run ws ls wk p)) kept status n left r w is cause run misfit no_r 
     misused_of 1 ws kept status n left r w is cause misfit no_r (λ x e. let by = kept_run (Some (Run ws ls wk p)) kept left run x e in run_fits 1 ws left x by.program by.words by.takes misfit)
 misused (Some (Sim ws ls wk sc p)) kept status n left r w is cause run misfit no_r =
     misused_of 2 ws kept status n left r w is cause misfit no_r (λ x e. let by = kept_run (Some (Sim ws ls wk sc p)) kept left run x e in run_fits 2 ws left x by.program by.words by.takes misfit)
+misused (Some (Keep ws ls wk)) kept status n left r w is cause run misfit no_r =
+    misused_of 1 ws kept status n left r w is cause misfit no_r (λ x e. let by = kept_run (Some (Keep ws ls wk)) kept left run x e in run_fits 1 ws left x by.program by.words by.takes misfit)
 misused (Some (Load tr wk)) kept status n left r w is cause run misfit no_r = absurd misfit
 
 -- a source that has a run is not refused
@@ -274,6 +296,8 @@ refuses (Some (Run ws ls wk p)) kept status n left r w is cause run fault why no
     refuses_of 1 ws kept status n left r w is cause fault why no_r (λ x e. let by = kept_run (Some (Run ws ls wk p)) kept left run x e in run_accepted 1 left x fault by.program why)
 refuses (Some (Sim ws ls wk sc p)) kept status n left r w is cause run fault why no_r =
     refuses_of 2 ws kept status n left r w is cause fault why no_r (λ x e. let by = kept_run (Some (Sim ws ls wk sc p)) kept left run x e in run_accepted 2 left x fault by.program why)
+refuses (Some (Keep ws ls wk)) kept status n left r w is cause run fault why no_r =
+    refuses_of 1 ws kept status n left r w is cause fault why no_r (λ x e. let by = kept_run (Some (Keep ws ls wk)) kept left run x e in run_accepted 1 left x fault by.program why)
 refuses (Some (Load tr wk)) kept status n left r w is cause run fault why no_r = absurd why
 
 complete_of : (co : Command) (l : ℕ) (words : List ℤ) (kept : Option Record) (status : ℕ) (n : Note) (left : Option (List ℕ)) (r w : Type 0) → IsStatus kept status n → IsCauseOfRun l words n left r w → IsReady co → IfSome kept (IsDoneBy co)
@@ -301,40 +325,44 @@ pub complete : (command : Option Command) (kept : Option Record) (status : ℕ) 
 complete None kept status n left r w is cause ready done accepted no_r no_w = of_none kept status n cause is
 complete (Some (Run ws ls wk p)) kept status n left r w is cause ready done accepted no_r no_w = complete_of (Run ws ls wk p) 1 ws kept status n left r w is cause ready done accepted no_r no_w
 complete (Some (Sim ws ls wk sc p)) kept status n left r w is cause ready done accepted no_r no_w = complete_of (Sim ws ls wk sc p) 2 ws kept status n left r w is cause ready done accepted no_r no_w
+complete (Some (Keep ws ls wk)) kept status n left r w is cause ready done accepted no_r no_w = complete_of (Keep ws ls wk) 1 ws kept status n left r w is cause ready done accepted no_r no_w
 complete (Some (Load tr wk)) kept status n left r w is cause ready done accepted no_r no_w = load_complete (Load tr wk) kept status n w is cause ready done no_w
 
--- where a run's status is 0 the machine finished, with the memory and the outputs that were written, and behind them what follows
-pub at_zero : (cells : List CellInfo) (t : List Node) (e : RecordEnd) (picks : Picks) (s : SerialEnd) (more : List ℕ) (old new : Option (List ℕ)) → 0 ≡ status_of_end e → SameEnd e picks s → Appends old new (end_text cells t e ++ more) → (memory outputs : List ℤ) × (s ≡ last.Finished memory outputs) × Appends old new (finished_text cells memory outputs ++ more)
-at_zero cells t (Finished m o) picks s more old new is same written = (m, o, same, written)
-at_zero cells t (Fault x k) picks s more old new is same written = cc
-at_zero cells t (Budget x) picks s more old new is same written = cc
-at_zero cells t Moves picks s more old new is same written = cc
+-- where a run's status is 0 the machine finished, and the run with the same memory and outputs
+pub finished_at : (e : RecordEnd) (picks : Picks) (s : SerialEnd) → 0 ≡ status_of_end e → SameEnd e picks s → (memory outputs : List ℤ) × (s ≡ last.Finished memory outputs) × (e ≡ Finished memory outputs)
+finished_at (Finished m o) picks s is same = (m, o, same, refl)
+finished_at (Fault x k) picks s is same = cc
+finished_at (Budget x) picks s is same = cc
+finished_at Moves picks s is same = cc
 
--- the same of a load
-pub sum_at_zero : (count : ℕ) (cells : List CellInfo) (t : List Node) (e : RecordEnd) (picks : Picks) (s : SerialEnd) (old new : Option (List ℕ)) → 0 ≡ status_of_end e → SameEnd e picks s → Appends old new (load_text_of count cells t e) → (memory outputs : List ℤ) × (s ≡ last.Finished memory outputs) × Appends old new (summary_text count memory)
-sum_at_zero count cells t (Finished m o) picks s old new is same written = (m, o, same, written)
-sum_at_zero count cells t (Fault x k) picks s old new is same written = cc
-sum_at_zero count cells t (Budget x) picks s old new is same written = cc
-sum_at_zero count cells t Moves picks s old new is same written = cc
+of_replay : (co : Command) (left : Option (List ℕ)) (r : Record) (text : List ℕ) (old new : Option (List ℕ)) → 0 ≡ status_of_end r.end → IsNumbered r.tree → IsReplayed r → IsTextBy co left r text → Appends old new text → WritesEndOfOneMemory (Some co) left r old new
+of_replay co left r text old new is tree replays told written =
+    let (memory, outputs, finishes, ends) = finished_at r.end r.order (end_of_one_memory r) is (same_end r tree.rooted tree.root replays) in
+    record {
+      memory = memory;
+      outputs = outputs;
+      finishes = finishes;
+      text = text;
+      is_text = subst (λ (e : RecordEnd). IsTextBy co left (record r { end = e }) text) ends told;
+      written = written;
+    }
 
-of_telling : (telling : Telling) (r : Record) (old new : Option (List ℕ)) → 0 ≡ status_of_end r.end → IsNumbered r.tree → IsReplayed r → Appends old new (text_in telling r) → (memory outputs : List ℤ) × (end_of_one_memory r ≡ last.Finished memory outputs) × Appends old new (end_text_in telling r memory outputs)
-of_telling (Results report) r old new is tree replays written = at_zero r.program.cells r.tree r.end r.order (end_of_one_memory r) (report_if report r) old new is (same_end r tree.rooted tree.root replays) written
-of_telling (Summary count) r old new is tree replays written = sum_at_zero count r.program.cells r.tree r.end r.order (end_of_one_memory r) old new is (same_end r tree.rooted tree.root replays) written
+-- with status 0 the whole text was written, and it is one of the run
+pub written_at : (IsText : Record → List ℕ → Type 0) (r : Record) (status : ℕ) (old new : Option (List ℕ)) (before after : ℕ → Type 0) (told : Tells IsText (Some r) status note.Nothing old new before after) → status ≡ 0 → IsText r told.text × Appends old new told.text
+written_at IsText r status old new before after told zero =
+    (told.is_text (λ e. cc), subst (λ s. Writes (text_owed (Some r) s told.text) note.Nothing old new) zero told.written)
 
-of_replay : (co : Command) (r : Record) (old new : Option (List ℕ)) → 0 ≡ status_of_end r.end → IsNumbered r.tree → IsReplayed r → Appends old new (text_in (telling_of co) r) → WritesEndOfOneMemory (Some co) r old new
-of_replay co r old new is tree replays written =
-    let (memory, outputs, finishes, told) = of_telling (telling_of co) r old new is tree replays written in
-    record { memory = memory; outputs = outputs; finishes = finishes; written = told }
-
-pub finished : (command : Option Command) (kept : Option Record) (status : ℕ) (n : Note) (left old new : Option (List ℕ)) → IsStatus kept status n → IfSome kept (IsRunOf command left) → Writes (text_owed (text_of_command command) kept status) n old new → status ≡ 0 → IsSomeAnd kept (λ r. WritesEndOfOneMemory command r old new)
-finished command None status note.Nothing left old new is run written zero = absurd is
-finished None (Some r) status note.Nothing left old new is run written zero = absurd run
-finished (Some co) (Some r) status note.Nothing left old new (inl (same, is)) run written zero =
-    of_replay co r old new (sym zero ∙ is) run.tree same (subst (λ s. Writes (text_owed (text_of_command (Some co)) (Some r) s) note.Nothing old new) zero written)
-finished (Some co) (Some r) status note.Nothing left old new (inr (other, is)) run written zero = cc
-finished command kept status note.Usage left old new (none, is) run written zero = cc
-finished command kept status note.Memory left old new (none, is) run written zero = cc
-finished command kept status note.Read left old new (none, is) run written zero = cc
-finished command kept status note.Write left old new (some, is) run written zero = cc
-finished command kept status (note.Text f) left old new (none, is) run written zero = cc
-finished command kept status (note.Name f) left old new (none, is) run written zero = cc
+pub finished : (command : Option Command) (kept : Option Record) (status : ℕ) (n : Note) (left old new : Option (List ℕ)) (before after : ℕ → Type 0) → IsStatus kept status n → IfSome kept (IsRunOf command left) → Tells (IsTextOf command left) kept status n old new before after → status ≡ 0
+    → IsSomeAnd kept (λ r. WritesEndOfOneMemory command left r old new)
+finished command None status note.Nothing left old new before after is run told zero = absurd is
+finished None (Some r) status note.Nothing left old new before after is run told zero = absurd run
+finished (Some co) (Some r) status note.Nothing left old new before after (inl (same, is)) run told zero =
+    let (is_text, written) = written_at (IsTextOf (Some co) left) r status old new before after told zero in
+    of_replay co left r told.text old new (sym zero ∙ is) run.tree same is_text written
+finished (Some co) (Some r) status note.Nothing left old new before after (inr (other, is)) run told zero = cc
+finished command kept status note.Usage left old new before after (none, is) run told zero = cc
+finished command kept status note.Memory left old new before after (none, is) run told zero = cc
+finished command kept status note.Read left old new before after (none, is) run told zero = cc
+finished command kept status note.Write left old new before after (some, is) run told zero = cc
+finished command kept status (note.Text f) left old new before after (none, is) run told zero = cc
+finished command kept status (note.Name f) left old new before after (none, is) run told zero = cc

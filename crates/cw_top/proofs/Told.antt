@@ -1,13 +1,21 @@
 -- What is not done by several threads is proved to replay.
-use Rattle.std.proofs.Common.{Some, arith, inl, inr}
+use Rattle.std.proofs.Common.{ℕ, List, [], Option, Some, None, append-nil, arith, inl, inr, sym}
 use Rattle.std.proofs.lemmas.Bool.{cases_lt}
 use Rattle.cw_record.specs.declared.record.Record.{Record}
 use Rattle.cw_record.specs.Records.{IsReplayed}
 use Rattle.cw_words.specs.declared.command.Command.{Command}
-use Rattle.cw_words.specs.declared.command.Command.TheVariants.{Run, Sim, Load}
+use Rattle.cw_words.specs.declared.command.Command.TheVariants.{Run, Sim, Load, Keep}
+use Rattle.cw_top.specs.declared.outcome.Note.{Note}
 use Rattle.cw_top.specs.Runs.{HasSeveralThreads, IsDoneBy, IsReady}
+use Rattle.cw_top.specs.Written.{Tells}
 
 pub sure : (co : Command) (r : Record) → IsReady co → IsDoneBy co r → (HasSeveralThreads (Some co) → ⊥) → IsReplayed r
 sure (Run ws ls w p) r ready done few = elim (cases_lt 1 w) [ inl less ↦ absurd (few less) | inr le ↦ (done.one (omega (arith, ready.0, le))).replays ]
 sure (Load tr w) r ready done few = elim (cases_lt 1 w) [ inl less ↦ absurd (few less) | inr le ↦ (done.one (omega (arith, ready.0, le))).replays ]
+sure (Keep ws ls w) r ready done few = elim (cases_lt 1 w) [ inl less ↦ absurd (few less) | inr le ↦ (done.one (omega (arith, ready.0, le))).replays ]
 sure (Sim ws ls w s p) r ready done few = done.replays
+
+-- where nothing is told, and nothing written
+pub nothing_told : (IsText : Record → List ℕ → Type 0) (status : ℕ) (n : Note) (old : Option (List ℕ)) (tells : ℕ → Type 0) → Tells IsText None status n old old tells tells
+nothing_told IsText status n None tells = record { text = []; is_text = λ h. tt; written = tt; tells = λ h. (λ s. s, λ k more. more) }
+nothing_told IsText status n (Some xs) tells = record { text = []; is_text = λ h. tt; written = sym (append-nil xs); tells = λ h. (λ s. s, λ k more. more) }

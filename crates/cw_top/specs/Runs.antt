@@ -1,8 +1,10 @@
 -- The run that a command keeps: of which program, with which words and limits, and who did it. What depends on the command is a
 -- function of it, with a case for words that are no command. So a further command adds its cases where it differs from the others,
 -- and changes no clause.
-use Rattle.std.specs.Prelude.{◌≡◌, ◌≢◌, ◌<◌, ◌≤◌, ℕ, List, length, false, Option, Some, IfSome, IsSomeAnd}
+use Rattle.std.specs.Prelude.{◌≡◌, ◌≢◌, ◌<◌, ◌≤◌, ℕ, List, length, false, Option, Some, Ok, IfSome, IsSomeAnd}
 use Rattle.cw_io.specs.declared.schedule.Schedule.{Schedule}
+use Rattle.cw_text.specs.Syntax.{Source}
+use Rattle.cw_text.specs.Text.{program}
 use Rattle.cw_code.specs.declared.program.Program.{Program}
 use Rattle.cw_code.specs.Programs.{cancels}
 use Rattle.cw_strand.specs.Programs.{IsCompiled, IsProgramOf}
@@ -16,7 +18,7 @@ use Rattle.cw_sim.specs.Turns.{ListsWorkers}
 use Rattle.cw_sim.specs.OneWorker.{IsUnrefused}
 use Rattle.cw_pool.specs.Recorded.{IsOfBoard, IsOfOneWorker}
 use Rattle.cw_words.specs.declared.command.Command.{Command}
-use Rattle.cw_words.specs.declared.command.Command.TheVariants.{Run, Sim, Load}
+use Rattle.cw_words.specs.declared.command.Command.TheVariants.{Run, Sim, Load, Keep}
 use Rattle.cw_gen.specs.Load.{load_tree}
 use Rattle.cw_words.specs.Words.{limits_of, most_transfers, words_of}
 use Rattle.cw_top.specs.Refusals.{Spells, newest_language}
@@ -29,21 +31,29 @@ abbrev pub IsReady : Command → Type 0
 IsReady (Run words limits workers report) = (0 < workers) × (0 < limits.strands)
 IsReady (Sim words limits workers schedule report) = (0 < workers) × ListsWorkers schedule workers × (0 < limits.strands)
 IsReady (Load transfers workers) = (0 < workers) × (1 ≤ transfers) × (transfers ≤ most_transfers)
+IsReady (Keep words limits workers) = (0 < workers) × (0 < limits.strands)
 
 -- the command has more than one worker
 abbrev pub HasSeveralWorkers : Option Command → Type 0
 HasSeveralWorkers (Some (Run words limits workers report)) = 1 < workers
 HasSeveralWorkers (Some (Sim words limits workers schedule report)) = 1 < workers
 HasSeveralWorkers (Some (Load transfers workers)) = 1 < workers
+HasSeveralWorkers (Some (Keep words limits workers)) = 1 < workers
 HasSeveralWorkers command = ⊥
 
 -- the command has more than one worker, and they are threads
 abbrev pub HasSeveralThreads : Option Command → Type 0
 HasSeveralThreads (Some (Run words limits workers report)) = 1 < workers
 HasSeveralThreads (Some (Load transfers workers)) = 1 < workers
+HasSeveralThreads (Some (Keep words limits workers)) = 1 < workers
 HasSeveralThreads command = ⊥
 
 -- ## What is kept
+
+-- the syntax tree of a command: the one that the whole source spells, or that of a load
+abbrev pub IsItsSource : Command → (left : Option (List ℕ)) → Source → Type 0
+IsItsSource (Load transfers workers) left source = source.items ≡ load_tree transfers
+IsItsSource c left source = IfSome left (λ bytes. program (newest_language c) bytes ≡ Ok source)
 
 -- the program of a command: the one that the whole source spells, or that of a load
 abbrev pub IsItsProgram : Command → (left : Option (List ℕ)) → Program → Type 0
@@ -94,6 +104,7 @@ abbrev pub IsDoneBy : Command → Record → Type 0
 IsDoneBy (Run words limits workers report) r = IsOfThreads workers r
 IsDoneBy (Sim words limits workers schedule report) r = IsOfMoves workers schedule r
 IsDoneBy (Load transfers workers) r = IsOfThreads workers r
+IsDoneBy (Keep words limits workers) r = IsOfThreads workers r
 
 abbrev pub IsDoneAs : Option Command → Record → Type 0
 IsDoneAs command r = IsSomeAnd command (λ c. IsDoneBy c r)

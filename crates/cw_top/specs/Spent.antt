@@ -16,7 +16,7 @@ use Rattle.cw_replay.specs.Attempts.{RecordsAttempts}
 use Rattle.cw_sim.specs.Moves.{is_run_over}
 use Rattle.cw_sim.specs.Runs.{simulation_of}
 use Rattle.cw_words.specs.declared.command.Command.{Command}
-use Rattle.cw_words.specs.declared.command.Command.TheVariants.{Run, Sim, Load}
+use Rattle.cw_words.specs.declared.command.Command.TheVariants.{Run, Sim, Load, Keep}
 use Rattle.cw_top.specs.OverSource.{Spawns}
 use Rattle.cw_top.specs.Refusals.{newest_language}
 use Rattle.cw_top.specs.Written.{end_of_one_memory}
@@ -47,6 +47,7 @@ pub record SpentItsBudget (r : Record) : Type 0 where
 abbrev pub IsSpentBy : Option Command → Record → Type 0
 IsSpentBy (Some (Run words limits workers report)) r = StandsAtBudget r
 IsSpentBy (Some (Load transfers workers)) r = StandsAtBudget r
+IsSpentBy (Some (Keep words limits workers)) r = StandsAtBudget r
 IsSpentBy (Some (Sim words limits workers schedule report)) r = SpentItsBudget r
 IsSpentBy command r = ⊥
 
@@ -54,6 +55,7 @@ IsSpentBy command r = ⊥
 abbrev pub IsSpentOn : Option Command → (left : Option (List ℕ)) → Type 0
 IsSpentOn (Some (Run words limits workers report)) left = Unit {0}
 IsSpentOn (Some (Load transfers workers)) left = Unit {0}
+IsSpentOn (Some (Keep words limits workers)) left = Unit {0}
 IsSpentOn (Some (Sim words limits workers schedule report)) left = IfSome left (Spawns (newest_language (Sim words limits workers schedule report)))
 IsSpentOn command left = ⊥
 

@@ -1,8 +1,10 @@
 -- What was written: the text that a command owes for its run. There is none if the run disagrees with its replay.
-use Rattle.std.specs.Prelude.{◌≡◌, ◌==◌, ℕ, ℤ, pos, ◌+ℤ◌, List, [], ◌∷◌, ◌++◌, Bool, true, false, codes, length, Option, Some, None, if◌then◌else◌}
+use Rattle.std.specs.Prelude.{◌≡◌, ◌≢◌, ◌==◌, ℕ, ℤ, pos, ◌+ℤ◌, List, [], ◌∷◌, ◌++◌, Bool, true, false, codes, length, Option, Some, None, IfSome, IsSomeAnd, if◌then◌else◌}
 use Rattle.std.specs.Fmt.{decimal, signed_decimal}
 use Rattle.cw_io.specs.Outside.{Appends, AppendsFront, KeepsTelling, TellsOn}
+use Rattle.cw_text.specs.Syntax.{Source}
 use Rattle.cw_code.specs.declared.CellInfo.{CellInfo}
+use Rattle.cw_strand.specs.Programs.{IsProgramOf}
 use Rattle.cw_tree.specs.declared.node.Node.{Node}
 use Rattle.cw_serial.specs.declared.ends.SerialEnd.{SerialEnd}
 use Rattle.cw_serial.specs.declared.ends.SerialEnd.TheVariants as last
@@ -11,14 +13,17 @@ use Rattle.cw_record.specs.declared.record.Record.{Record}
 use Rattle.cw_record.specs.declared.record_end.RecordEnd.{RecordEnd}
 use Rattle.cw_record.specs.declared.record_end.RecordEnd.TheVariants.{Finished}
 use Rattle.cw_record.specs.Records.{job_of_record}
-use Rattle.cw_report.specs.Results.{end_text, finished_text, line, run_text}
+use Rattle.cw_report.specs.Results.{end_text, line, run_text}
 use Rattle.cw_report.specs.Report.{report_text}
+use Rattle.cw_sheet.specs.Contents.{Contents}
+use Rattle.cw_sheet.specs.SheetText.{sheet_text}
 use Rattle.cw_words.specs.declared.command.Command.{Command}
-use Rattle.cw_words.specs.declared.command.Command.TheVariants.{Run, Sim, Load}
+use Rattle.cw_words.specs.declared.command.Command.TheVariants.{Run, Sim, Load, Keep}
 use Rattle.cw_top.specs.declared.telling.Telling.{Telling}
-use Rattle.cw_top.specs.declared.telling.Telling.TheVariants.{Results, Summary}
+use Rattle.cw_top.specs.declared.telling.Telling.TheVariants.{Results, Summary, Sheet}
 use Rattle.cw_top.specs.declared.outcome.Note.{Note}
 use Rattle.cw_top.specs.declared.outcome.Note.TheVariants as note
+use Rattle.cw_top.specs.Runs.{IsItsSource}
 
 -- the report on a run, if it is asked for
 abbrev pub report_if : Bool → Record → List ℕ
@@ -46,35 +51,37 @@ load_text_of n cells t e = end_text cells t e
 abbrev pub load_text : (transfers : ℕ) → Record → List ℕ
 load_text n r = load_text_of n r.program.cells r.tree r.end
 
+-- the sheet of a run: its syntax tree, its words and limits, and what it left
+abbrev pub sheet_of_run : Source → Record → Contents
+sheet_of_run source r = record { source = source; words = r.words; limits = r.limits; tree = r.tree; conflicts = r.conflicts; end = r.end }
+
 -- what a command writes of its run
 abbrev pub telling_of : Command → Telling
 telling_of (Run words limits workers report) = Results report
 telling_of (Sim words limits workers schedule report) = Results report
 telling_of (Load transfers workers) = Summary transfers
+telling_of (Keep words limits workers) = Sheet
 
-abbrev pub text_in : Telling → Record → List ℕ
-text_in (Results report) r = text_by report r
-text_in (Summary n) r = load_text n r
+-- the text of a run of this syntax tree
+abbrev pub IsTextIn : Telling → Source → Record → List ℕ → Type 0
+IsTextIn (Results report) source r text = text ≡ text_by report r
+IsTextIn (Summary n) source r text = text ≡ load_text n r
+IsTextIn Sheet source r text = text ≡ sheet_text (sheet_of_run source r)
 
--- what a command writes of a finished run, with the result of one memory
-abbrev pub end_text_in : Telling → Record → (memory outputs : List ℤ) → List ℕ
-end_text_in (Results report) r memory outputs = finished_text r.program.cells memory outputs ++ report_if report r
-end_text_in (Summary n) r memory outputs = summary_text n memory
+-- The text that a command writes for its run. The run is one of the command's syntax tree.
+pub record IsTextBy (c : Command) (left : Option (List ℕ)) (r : Record) (text : List ℕ) : Type 0 where
+  pub source : Source
+  pub its : IsItsSource c left source
+  pub compiled : IsProgramOf source.items r.program
+  pub told : IsTextIn (telling_of c) source r text
 
--- the text that a command writes for its run
-abbrev pub text_of_command : Option Command → Record → List ℕ
-text_of_command None r = []
-text_of_command (Some c) r = text_in (telling_of c) r
+abbrev pub IsTextOf : Option Command → (left : Option (List ℕ)) → Record → List ℕ → Type 0
+IsTextOf command left r text = IsSomeAnd command (λ c. IsTextBy c left r text)
 
--- the text that a command writes for a finished run, with the result of one memory
-abbrev pub text_of_end : Option Command → Record → (memory outputs : List ℤ) → List ℕ
-text_of_end None r memory outputs = []
-text_of_end (Some c) r memory outputs = end_text_in (telling_of c) r memory outputs
-
--- The text owed for the run that is kept. There is none without a run, and none with status 8.
-abbrev pub text_owed : (text : Record → List ℕ) → Option Record → (status : ℕ) → Option (List ℕ)
-text_owed text None status = None
-text_owed text (Some r) status = if status == 8 then None else Some (text r)
+-- The text is owed for the run that is kept. None is owed without a run, and none with status 8.
+abbrev pub text_owed : Option Record → (status : ℕ) → (text : List ℕ) → Option (List ℕ)
+text_owed None status text = None
+text_owed (Some r) status text = if status == 8 then None else Some text
 
 -- The owed text was written, or a front of it if the write failed. If no text is owed, nothing was written.
 abbrev pub Writes : (owed : Option (List ℕ)) → Note → (old new : Option (List ℕ)) → Type 0
@@ -88,13 +95,23 @@ abbrev pub StillTells : (owed : Option (List ℕ)) → (before after : ℕ → T
 StillTells None before after old new = TellsOn old new × ((n : ℕ) → before n → after n)
 StillTells (Some text) before after old new = KeepsTelling before after old new (length text)
 
+-- What was written, if this is what makes a text that of a run: the owed text. Unless a write failed, a sink goes on telling.
+pub record Tells (IsText : Record → List ℕ → Type 0) (kept : Option Record) (status : ℕ) (n : Note) (old new : Option (List ℕ)) (before after : ℕ → Type 0) : Type 0 where
+  pub text : List ℕ
+  pub is_text : status ≢ 8 → IfSome kept (λ r. IsText r text)
+  pub written : Writes (text_owed kept status text) n old new
+  pub tells : status ≢ 4 → StillTells (text_owed kept status text) before after old new
+
 -- how one memory ends in the order that is kept
 abbrev pub end_of_one_memory : Record → SerialEnd
 end_of_one_memory r = end_under (job_of_record r) r.order
 
--- One memory, in the order that is kept, finishes, and what was written is the command's text of its outputs and its cells.
-pub record WritesEndOfOneMemory (command : Option Command) (r : Record) (old new : Option (List ℕ)) : Type 0 where
+-- One memory, in the order that is kept, finishes with this memory and these outputs. What was written is the command's text of the
+-- run with that end.
+pub record WritesEndOfOneMemory (command : Option Command) (left : Option (List ℕ)) (r : Record) (old new : Option (List ℕ)) : Type 0 where
   pub memory : List ℤ
   pub outputs : List ℤ
   pub finishes : end_of_one_memory r ≡ last.Finished memory outputs
-  pub written : Appends old new (text_of_end command r memory outputs)
+  pub text : List ℕ
+  pub is_text : IsTextOf command left (record r { end = Finished memory outputs }) text
+  pub written : Appends old new text

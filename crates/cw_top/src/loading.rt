@@ -1,28 +1,30 @@
 ghost use Rattle.std.specs.Prelude.{◌≤◌, ◌≡◌, false, IfOk, string_bytes};
+ghost use Rattle.cw_text.specs.Syntax.{source_of};
 ghost use Rattle.cw_code.specs.Programs.{cancels};
 ghost use Rattle.cw_strand.specs.Programs.{IsProgramOf};
 ghost use Rattle.cw_gen.specs.Load.{load_tree};
 ghost use Rattle.cw_words.specs.Words.{most_transfers};
 ghost use Rattle.cw_top.specs.Written.{sum_of_values, summary_text};
 
+use crate::reading::Compiled;
 use cw_base::OutOfMemory;
-use cw_code::Program;
 use cw_compile::{NameRefusal, compile};
 use cw_gen::{load_program, loads_have_no_fault};
 use std::alloc::Global;
 
-/// Returns the compiled program of a load of `transfers` transfers.
-pub fn compiled_load(alloc: Global, transfers: u32) -> Result<Program, OutOfMemory>
+/// Returns the program of a load of `transfers` transfers, compiled.
+pub fn compiled_load(alloc: Global, transfers: u32) -> Result<Compiled, OutOfMemory>
     requires some { 1 ≤ transfers }
     requires most { transfers ≤ most_transfers }
-    ensures program { IfOk result (IsProgramOf (load_tree transfers)) }
-    ensures cancels { IfOk result (λ p. cancels p.code ≡ false) }
+    ensures tree { IfOk result (λ c. (source_of c.ast).items ≡ load_tree transfers) }
+    ensures its { IfOk result (λ c. IsProgramOf (source_of c.ast).items c.program) }
+    ensures cancels { IfOk result (λ c. cancels c.program.code ≡ false) }
 {
     let ast = load_program(alloc, transfers)?;
     // A hint to the prover: no name is at fault.
     loads_have_no_fault();
     match compile(alloc, &ast) {
-        Ok(program) => Ok(program),
+        Ok(program) => Ok(Compiled { ast, program }),
         Err(NameRefusal::OutOfMemory) => Err(OutOfMemory),
         Err(NameRefusal::Name(_)) => unreachable!(),
     }

@@ -1,17 +1,25 @@
 ghost use Rattle.std.specs.Prelude.{◌≡◌, ◌-◌, ◌<◌, ◌≤◌, ◌⊎◌, length, false, Ok, IfOk, IfErr, IfSome, OnOk};
+ghost use Rattle.cw_text.specs.Syntax.{source_of};
+ghost use Rattle.cw_text.specs.Text.{program};
 ghost use Rattle.cw_io.specs.Outside.{IsDry, Rose, RunsDry, Takes};
 ghost use Rattle.cw_code.specs.Programs.{cancels};
-ghost use Rattle.cw_strand.specs.Programs.{IsCompiled};
+ghost use Rattle.cw_strand.specs.Programs.{IsCompiled, IsProgramOf};
 ghost use Rattle.cw_top.specs.Taken.{GivesOn, RisesAtMost, TakesAtMost, most_bytes};
 ghost use Rattle.cw_top.specs.Reasons.{WhyNoRun, WhyRefused, WhyStopped};
-ghost use Rattle.cw_top.specs.Refusals.{Spells};
 
 use crate::reasons::{NoRun, Refusal, Stop};
 use cw_code::Program;
 use cw_compile::compile;
 use cw_io::Source;
-use cw_text::read_language;
+use cw_text::{Ast, read_language};
 use std::alloc::Global;
+
+/// A program: its syntax tree, and what that is compiled to.
+#[derive(Drop)]
+pub struct Compiled {
+    pub ast: Ast,
+    pub program: Program,
+}
 
 // One more than a text may have.
 const MOST_BYTES: usize = 1_048_577;
@@ -58,28 +66,35 @@ fn read_all<S: Source>(alloc: Global, source: &mut S) -> Result<Vec<u8>, Stop>
 }
 
 // Compiles the program that `bytes` spell.
-fn program_of(alloc: Global, bytes: &[u8], newest: u32) -> Result<Program, Refusal>
+fn program_of(alloc: Global, bytes: &[u8], newest: u32) -> Result<Compiled, Refusal>
     requires { (newest ≡ 1) ⊎ (newest ≡ 2) }
-    ensures spelled { IfOk result (λ p. Spells newest bytes.now p) }
-    ensures compiled { IfOk result (λ p. IsCompiled p) }
-    ensures cancels { newest ≡ 1 → IfOk result (λ p. cancels p.code ≡ false) }
+    ensures spelled { IfOk result (λ c. program newest bytes.now ≡ Ok (source_of c.ast)) }
+    ensures its { IfOk result (λ c. IsProgramOf (source_of c.ast).items c.program) }
+    ensures compiled { IfOk result (λ c. IsCompiled c.program) }
+    ensures cancels { newest ≡ 1 → IfOk result (λ c. cancels c.program.code ≡ false) }
     ensures why { IfErr result (λ r. WhyRefused newest r bytes.now) }
 {
     let ast = read_language(alloc, bytes, newest)?;
-    Ok(compile(alloc, &ast)?)
+    let program = compile(alloc, &ast)?;
+    Ok(Compiled { ast, program })
 }
 
-// Reads and compiles the program that a source spells, in a language up to `newest`.
-pub fn program_from<S: Source>(alloc: Global, source: &mut S, newest: u32) -> Result<Program, NoRun>
+/// Reads and compiles the program that a source spells, in a language up to `newest`.
+pub fn program_from<S: Source>(
+    alloc: Global,
+    source: &mut S,
+    newest: u32,
+) -> Result<Compiled, NoRun>
     requires { (newest ≡ 1) ⊎ (newest ≡ 2) }
     ensures later { S.faults source.old ≤ S.faults source.new }
     ensures why { IfErr result (λ n. WhyNoRun newest n (Rose (S.faults source.old) (S.faults source.new)) ⊥ (S.left source.old)) }
     ensures taken { TakesAtMost most_bytes (S.left source.old) (S.left source.new) }
     ensures whole { OnOk result (RunsDry (S.left source.old) (S.left source.new)) }
     ensures once { RisesAtMost 1 (S.ends source.old) (S.ends source.new) }
-    ensures spelled { IfOk result (λ p. IfSome (S.left source.old) (λ bytes. Spells newest bytes p)) }
-    ensures compiled { IfOk result (λ p. IsCompiled p) }
-    ensures cancels { newest ≡ 1 → IfOk result (λ p. cancels p.code ≡ false) }
+    ensures spelled { IfOk result (λ c. IfSome (S.left source.old) (λ bytes. program newest bytes ≡ Ok (source_of c.ast))) }
+    ensures its { IfOk result (λ c. IsProgramOf (source_of c.ast).items c.program) }
+    ensures compiled { IfOk result (λ c. IsCompiled c.program) }
+    ensures cancels { newest ≡ 1 → IfOk result (λ c. cancels c.program.code ≡ false) }
 {
     let bytes = read_all(alloc, source)?;
     Ok(program_of(alloc, bytes.as_slice(), newest)?)

@@ -112,32 +112,3 @@ impl From<Refusal> for NoRun {
         NoRun::Refused(refusal)
     }
 }
-
-/// Why the text of a run was not written.
-#[derive(Clone, Copy)]
-pub enum NotWritten {
-    OutOfMemory,
-    WriteFault,
-}
-
-impl From<OutOfMemory> for NotWritten {
-    ghost use Rattle.std.specs.Prelude.{◌≡◌};
-    ghost use Rattle.cw_top.specs.declared.reasons.NotWritten.TheVariants as not_written;
-
-    ghost from_gives = { λ _ e. e ≡ not_written.OutOfMemory };
-
-    fn from(_failed: OutOfMemory) -> Self {
-        NotWritten::OutOfMemory
-    }
-}
-
-impl From<Failed> for NotWritten {
-    ghost use Rattle.std.specs.Prelude.{◌≡◌};
-    ghost use Rattle.cw_top.specs.declared.reasons.NotWritten.TheVariants.{WriteFault};
-
-    ghost from_gives = { λ _ e. e ≡ WriteFault };
-
-    fn from(_failed: Failed) -> Self {
-        NotWritten::WriteFault
-    }
-}

@@ -1,7 +1,8 @@
 ghost use Rattle.std.specs.Prelude.{◌≡◌, ◌≢◌, ◌≤◌, ◌<◌, ◌↔◌, false, None, Some, length, IfOk, IfErr, IfSome, IsErrOf, IsTrue, OnOk};
 ghost use Rattle.cw_io.specs.Outside.{Rose};
+ghost use Rattle.cw_text.specs.Syntax.{source_of};
 ghost use Rattle.cw_code.specs.Programs.{cancels};
-ghost use Rattle.cw_strand.specs.Programs.{IsCompiled};
+ghost use Rattle.cw_strand.specs.Programs.{IsCompiled, IsProgramOf};
 ghost use Rattle.cw_tree.specs.Walks.{IsNumbered};
 ghost use Rattle.cw_job.specs.Jobs.{TakesWords};
 ghost use Rattle.cw_record.specs.Records.{HasItsOutputs, IsNumberedDepthFirst};
@@ -9,12 +10,12 @@ ghost use Rattle.cw_top.specs.declared.reasons.NoRun.TheVariants.{Misfit};
 ghost use Rattle.cw_top.specs.Outcome.{HasCause};
 ghost use Rattle.cw_top.specs.Reasons.{note_of};
 ghost use Rattle.cw_top.specs.Refusals.{newest_language};
-ghost use Rattle.cw_top.specs.Runs.{HasSeveralThreads, IsDoneBy, IsItsProgram, IsOfThreads, IsReady, IsRunOf, MayCancel};
+ghost use Rattle.cw_top.specs.Runs.{HasSeveralThreads, IsDoneBy, IsItsSource, IsOfThreads, IsReady, IsRunOf, MayCancel};
 ghost use Rattle.cw_top.specs.Taken.{HasRead, RisesAtMost, TakesAtMost, most_ends, most_read};
 ghost use Rattle.cw_words.specs.Words.{limits_of, words_of};
 
 use crate::loading::compiled_load;
-use crate::reading::program_from;
+use crate::reading::{Compiled, program_from};
 use crate::reasons::NoRun;
 use cw_base::{OutOfMemory, Seq};
 use cw_code::{Limits, Program, default_limits};
@@ -23,10 +24,18 @@ use cw_job::takes_words;
 use cw_pool::run;
 use cw_record::Record;
 use cw_sim::simulate;
+use cw_text::Ast;
 use cw_words::Command;
 use std::alloc::Global;
 use std::sync::Wait;
 use std::thread::Threads;
+
+/// A run, and the syntax tree of what was run.
+#[derive(Drop)]
+pub struct Ran {
+    pub run: Record,
+    pub ast: Ast,
+}
 
 // Returns the newest language in which a command reads its source.
 fn newest(command: &Command) -> u32
@@ -34,7 +43,7 @@ fn newest(command: &Command) -> u32
 {
     match command {
         Command::Sim { .. } => 2,
-        Command::Run { .. } | Command::Load { .. } => 1,
+        Command::Run { .. } | Command::Load { .. } | Command::Keep { .. } => 1,
     }
 }
 
@@ -43,7 +52,9 @@ pub fn has_several_threads(command: &Command) -> bool
     ensures { IsTrue result ↔ HasSeveralThreads (Some command.now) }
 {
     match command {
-        Command::Run { workers, .. } | Command::Load { workers, .. } => 1 < *workers,
+        Command::Run { workers, .. }
+        | Command::Load { workers, .. }
+        | Command::Keep { workers, .. } => 1 < *workers,
         Command::Sim { .. } => false,
     }
 }
@@ -109,6 +120,11 @@ fn run_program<R: Threads + Wait + Sync, G: Gate>(
             let words = Seq::new(alloc);
             run_on_threads(rt, alloc, program, words, workers, default_limits(), gate)
         }
+        Command::Keep {
+            words,
+            limits,
+            workers,
+        } => run_on_threads(rt, alloc, program, words, workers, limits, gate),
     }
 }
 
@@ -139,7 +155,11 @@ fn run_command<R: Threads + Wait + Sync, G: Gate>(
 }
 
 // Returns the program of a command: the one that the source spells, or that of a load, for which nothing is read.
-fn program_by<S: Source>(alloc: Global, command: &Command, source: &mut S) -> Result<Program, NoRun>
+fn program_by<S: Source>(
+    alloc: Global,
+    command: &Command,
+    source: &mut S,
+) -> Result<Compiled, NoRun>
     requires { IsReady command.now }
     ensures later { S.faults source.old ≤ S.faults source.new }
     ensures why { IfErr result (λ n. HasCause (Some command.now) (note_of n) (S.left source.old) (Rose (S.faults source.old) (S.faults source.new)) ⊥) }
@@ -147,13 +167,16 @@ fn program_by<S: Source>(alloc: Global, command: &Command, source: &mut S) -> Re
     ensures taken { TakesAtMost (most_read (Some command.now)) (S.left source.old) (S.left source.new) }
     ensures whole { OnOk result (HasRead (Some command.now) (S.left source.old) (S.left source.new)) }
     ensures once { RisesAtMost (most_ends (Some command.now)) (S.ends source.old) (S.ends source.new) }
-    ensures its { IfOk result (IsItsProgram command.now (S.left source.old)) }
-    ensures compiled { IfOk result (λ p. IsCompiled p) }
-    ensures cancels { IfOk result (MayCancel command.now) }
+    ensures source { IfOk result (λ c. IsItsSource command.now (S.left source.old) (source_of c.ast)) }
+    ensures its { IfOk result (λ c. IsProgramOf (source_of c.ast).items c.program) }
+    ensures compiled { IfOk result (λ c. IsCompiled c.program) }
+    ensures cancels { IfOk result (λ c. MayCancel command.now c.program) }
 {
     match command {
         Command::Load { transfers, .. } => Ok(compiled_load(alloc, *transfers)?),
-        Command::Run { .. } | Command::Sim { .. } => program_from(alloc, source, newest(command)),
+        Command::Run { .. } | Command::Sim { .. } | Command::Keep { .. } => {
+            program_from(alloc, source, newest(command))
+        }
     }
 }
 
@@ -164,7 +187,7 @@ pub fn run_of<R: Threads + Wait + Sync, S: Source, G: Gate>(
     command: Command,
     source: &mut S,
     gate: &G,
-) -> Result<Record, NoRun>
+) -> Result<Ran, NoRun>
     requires { IsReady command }
     ensures later { S.faults source.old ≤ S.faults source.new }
     ensures why { IfErr result (λ n. HasCause (Some command) (note_of n) (S.left source.old) (Rose (S.faults source.old) (S.faults source.new)) ⊥) }
@@ -172,12 +195,16 @@ pub fn run_of<R: Threads + Wait + Sync, S: Source, G: Gate>(
     ensures whole { OnOk result (HasRead (Some command) (S.left source.old) (S.left source.new)) }
     ensures misfit { IsErrOf result Misfit → HasRead (Some command) (S.left source.old) (S.left source.new) }
     ensures once { RisesAtMost (most_ends (Some command)) (S.ends source.old) (S.ends source.new) }
-    ensures run { IfOk result (IsRunOf (Some command) (S.left source.old)) }
-    ensures done { IfOk result (IsDoneBy command) }
+    ensures run { IfOk result (λ ran. IsRunOf (Some command) (S.left source.old) ran.run) }
+    ensures done { IfOk result (λ ran. IsDoneBy command ran.run) }
+    ensures source { IfOk result (λ ran. IsItsSource command (S.left source.old) (source_of ran.ast)) }
+    ensures its { IfOk result (λ ran. IsProgramOf (source_of ran.ast).items ran.run.program) }
 {
-    let program = program_by(alloc, &command, source)?;
-    if !takes_words(&program, command.word_count()) {
+    let compiled = program_by(alloc, &command, source)?;
+    if !takes_words(&compiled.program, command.word_count()) {
         return Err(NoRun::Misfit);
     }
-    Ok(run_command(rt, alloc, command, program, gate)?)
+    let Compiled { ast, program } = compiled;
+    let run = run_command(rt, alloc, command, program, gate)?;
+    Ok(Ran { run, ast })
 }

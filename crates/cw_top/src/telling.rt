@@ -1,21 +1,25 @@
-ghost use Rattle.std.specs.Prelude.{◌≡◌, ◌≤◌, ◌↔◌, ℕ, None, false, length, IfOk, IfSome, IsErrOf, IsTrue, OnOk, []};
-ghost use Rattle.cw_io.specs.Outside.{Appends, AppendsFront, KeepsTelling, Rose, TellsOn};
+ghost use Rattle.std.specs.Prelude.{◌≡◌, ◌≤◌, ◌↔◌, None, false, length, IfOk, IfSome, IsTrue};
+ghost use Rattle.cw_io.specs.Outside.{Rose};
+ghost use Rattle.cw_text.specs.Syntax.{source_of};
 ghost use Rattle.cw_tree.specs.Nodes.{is_strand};
 ghost use Rattle.cw_job.specs.Jobs.{TakesWords};
 ghost use Rattle.cw_record.specs.Order.{ending_strand};
 ghost use Rattle.cw_record.specs.Records.{IsReplayed};
+ghost use Rattle.cw_sheet.specs.SheetText.{sheet_text};
 ghost use Rattle.cw_top.specs.declared.reasons.NoRun.TheVariants.{Misfit};
-ghost use Rattle.cw_top.specs.declared.reasons.NotWritten.TheVariants.{OutOfMemory, WriteFault};
 ghost use Rattle.cw_top.specs.Outcome.{IsCauseOfTelling, IsStatus, status_of_end};
 ghost use Rattle.cw_top.specs.Reasons.{note_of};
-ghost use Rattle.cw_top.specs.Written.{StillTells, Writes, load_text, text_by, text_in, text_owed};
+ghost use Rattle.cw_top.specs.Written.{IsTextIn, StillTells, Tells, Writes, load_text, sheet_of_run, text_by, text_owed};
 
 use crate::loading::summary;
-use crate::reasons::{NoRun, NotWritten, Refusal, Stop};
+use crate::reasons::{NoRun, Refusal, Stop};
+use crate::running::Ran;
 use crate::{Note, Reply};
+use cw_base::OutOfMemory;
 use cw_io::{Sink, write_all};
 use cw_record::{Checked, Record, RecordEnd, check};
 use cw_report::{report_text, result_text};
+use cw_sheet::{Sheet, sheet_text};
 use std::alloc::Global;
 
 /// What a command writes of its run.
@@ -25,6 +29,15 @@ pub enum Telling {
     Results { report: bool },
     /// The summary of a load of `transfers` transfers.
     Summary { transfers: u32 },
+    /// Its record sheet.
+    Sheet,
+}
+
+// A run, and the text that is owed for it.
+#[derive(Drop)]
+struct Told {
+    run: Record,
+    text: Vec<u8>,
 }
 
 fn status_of_end(end: &RecordEnd) -> u8
@@ -39,7 +52,7 @@ fn status_of_end(end: &RecordEnd) -> u8
 }
 
 // Returns the text of a run: its result, followed by the report if it is asked for.
-fn text_by(alloc: Global, run: &Record, report: bool) -> Result<Vec<u8>, cw_base::OutOfMemory>
+fn text_by(alloc: Global, run: &Record, report: bool) -> Result<Vec<u8>, OutOfMemory>
     requires { IsTrue (is_strand run.now.tree (ending_strand run.now.end)) }
     ensures { IfOk result (λ text. text.items ≡ text_by report run.now) }
 {
@@ -51,7 +64,7 @@ fn text_by(alloc: Global, run: &Record, report: bool) -> Result<Vec<u8>, cw_base
 }
 
 // Returns the text of a load: its summary, or how it ended if it did not finish.
-fn load_text(alloc: Global, run: &Record, transfers: u32) -> Result<Vec<u8>, cw_base::OutOfMemory>
+fn load_text(alloc: Global, run: &Record, transfers: u32) -> Result<Vec<u8>, OutOfMemory>
     requires { IsTrue (is_strand run.now.tree (ending_strand run.now.end)) }
     ensures { IfOk result (λ text. text.items ≡ load_text transfers run.now) }
 {
@@ -61,36 +74,61 @@ fn load_text(alloc: Global, run: &Record, transfers: u32) -> Result<Vec<u8>, cw_
     }
 }
 
-// Returns the text of a run, as `telling` says.
-fn text_in(alloc: Global, run: &Record, telling: Telling) -> Result<Vec<u8>, cw_base::OutOfMemory>
-    requires { IsTrue (is_strand run.now.tree (ending_strand run.now.end)) }
-    ensures { IfOk result (λ text. text.items ≡ text_in telling run.now) }
+// Makes the sheet of a run, and takes it apart again.
+fn with_sheet(alloc: Global, ran: Ran) -> Result<Told, OutOfMemory>
+    ensures run { IfOk result (λ told. told.run ≡ ran.run) }
+    ensures text { IfOk result (λ told. told.text.items ≡ sheet_text (sheet_of_run (source_of ran.ast) ran.run)) }
 {
-    match telling {
-        Telling::Results { report } => text_by(alloc, run, report),
-        Telling::Summary { transfers } => load_text(alloc, run, transfers),
-    }
+    let Ran { run, ast } = ran;
+    let Record {
+        program,
+        words,
+        limits,
+        tree,
+        journals,
+        conflicts,
+        order,
+        end,
+    } = run;
+    let sheet = Sheet {
+        ast,
+        words,
+        limits,
+        tree,
+        conflicts,
+        end,
+    };
+    let text = sheet_text(alloc, &sheet)?;
+    let run = Record {
+        program,
+        words: sheet.words,
+        limits: sheet.limits,
+        tree: sheet.tree,
+        journals,
+        conflicts: sheet.conflicts,
+        order,
+        end: sheet.end,
+    };
+    Ok(Told { run, text })
 }
 
-// Writes the text of a run, after making the whole of it.
-fn write_run<K: Sink>(
-    alloc: Global,
-    run: &Record,
-    telling: Telling,
-    sink: &mut K,
-) -> Result<(), NotWritten>
-    requires { IsTrue (is_strand run.now.tree (ending_strand run.now.end)) }
-    ensures later { K.faults sink.old ≤ K.faults sink.new }
-    ensures written { OnOk result (Appends (K.written sink.old) (K.written sink.new) (text_in telling run.now)) }
-    ensures nothing { IsErrOf result OutOfMemory → Appends (K.written sink.old) (K.written sink.new) [] }
-    ensures tells { OnOk result (KeepsTelling (K.tells_for sink.old) (K.tells_for sink.new) (K.written sink.old) (K.written sink.new) (length (text_in telling run.now))) }
-    ensures untouched { IsErrOf result OutOfMemory
-        → TellsOn (K.written sink.old) (K.written sink.new) × ((n : ℕ) → K.tells_for sink.old n → K.tells_for sink.new n) }
-    ensures front { IsErrOf result WriteFault → AppendsFront (K.written sink.old) (K.written sink.new) (text_in telling run.now) }
-    ensures cause { IsErrOf result WriteFault → Rose (K.faults sink.old) (K.faults sink.new) }
+// Makes the text of a run, as `telling` says.
+fn with_text(alloc: Global, ran: Ran, telling: Telling) -> Result<Told, OutOfMemory>
+    requires { IsTrue (is_strand ran.run.tree (ending_strand ran.run.end)) }
+    ensures run { IfOk result (λ told. told.run ≡ ran.run) }
+    ensures text { IfOk result (λ told. IsTextIn telling (source_of ran.ast) ran.run told.text.items) }
 {
-    let text = text_in(alloc, run, telling)?;
-    Ok(write_all(sink, text.as_slice())?)
+    match telling {
+        Telling::Results { report } => {
+            let text = text_by(alloc, &ran.run, report)?;
+            Ok(Told { run: ran.run, text })
+        }
+        Telling::Summary { transfers } => {
+            let text = load_text(alloc, &ran.run, transfers)?;
+            Ok(Told { run: ran.run, text })
+        }
+        Telling::Sheet => with_sheet(alloc, ran),
+    }
 }
 
 /// Returns the reply if there is no run.
@@ -115,32 +153,47 @@ pub fn without_run(why: NoRun) -> Reply
 }
 
 // Writes the text of a run that replays, and returns the reply.
-fn write_reply<K: Sink>(alloc: Global, run: Record, telling: Telling, sink: &mut K) -> Reply
-    requires { IsReplayed run }
+fn write_reply<K: Sink>(told: Told, sink: &mut K) -> Reply
+    requires { IsReplayed told.run }
     ensures later { K.faults sink.old ≤ K.faults sink.new }
-    ensures kept { IfSome result.kept (λ r. r ≡ run) }
+    ensures kept { IfSome result.kept (λ r. r ≡ told.run) }
     ensures status { IsStatus result.kept result.status result.note }
     ensures cause { IsCauseOfTelling result.note (Rose (K.faults sink.old) (K.faults sink.new)) }
-    ensures written { Writes (text_owed (text_in telling) result.kept result.status) result.note (K.written sink.old) (K.written sink.new) }
-    ensures tells { (result.status ≡ 4 → ⊥) → StillTells (text_owed (text_in telling) result.kept result.status) (K.tells_for sink.old) (K.tells_for sink.new) (K.written sink.old) (K.written sink.new) }
+    ensures written { Writes (text_owed result.kept result.status told.text.items) result.note (K.written sink.old) (K.written sink.new) }
+    ensures tells { (result.status ≡ 4 → ⊥) → StillTells (text_owed result.kept result.status told.text.items) (K.tells_for sink.old) (K.tells_for sink.new) (K.written sink.old) (K.written sink.new) }
 {
-    match write_run(alloc, &run, telling, sink) {
+    let Told { run, text } = told;
+    match write_all(sink, text.as_slice()) {
         Ok(()) => Reply {
             status: status_of_end(&run.end),
             note: Note::Nothing,
             kept: Some(run),
         },
-        Err(NotWritten::WriteFault) => Reply {
+        Err(_) => Reply {
             status: 4,
             note: Note::Write,
             kept: Some(run),
         },
-        Err(NotWritten::OutOfMemory) => without_run(NoRun::OutOfMemory),
+    }
+}
+
+// Makes the text of a run that replays, writes it, and returns the reply.
+fn tell_reply<K: Sink>(alloc: Global, ran: Ran, telling: Telling, sink: &mut K) -> Reply
+    requires { IsReplayed ran.run }
+    ensures later { K.faults sink.old ≤ K.faults sink.new }
+    ensures kept { IfSome result.kept (λ r. r ≡ ran.run) }
+    ensures status { IsStatus result.kept result.status result.note }
+    ensures cause { IsCauseOfTelling result.note (Rose (K.faults sink.old) (K.faults sink.new)) }
+    ensures written { Tells (IsTextIn telling (source_of ran.ast)) result.kept result.status result.note (K.written sink.old) (K.written sink.new) (K.tells_for sink.old) (K.tells_for sink.new) }
+{
+    match with_text(alloc, ran, telling) {
+        Ok(told) => write_reply(told, sink),
+        Err(_) => without_run(NoRun::OutOfMemory),
     }
 }
 
 // Whether the run replays. One that is already known to replay is not checked.
-fn is_replayed(alloc: Global, run: &Record, is_unsure: bool) -> Result<bool, cw_base::OutOfMemory>
+fn is_replayed(alloc: Global, run: &Record, is_unsure: bool) -> Result<bool, OutOfMemory>
     requires takes { TakesWords run.now.program (length run.now.words) }
     requires sure { is_unsure ≡ false → IsReplayed run.now }
     ensures { IfOk result (λ b. IsTrue b ↔ IsReplayed run.now) }
@@ -157,26 +210,25 @@ fn is_replayed(alloc: Global, run: &Record, is_unsure: bool) -> Result<bool, cw_
 /// Writes the text of a run if it replays, and returns the reply.
 pub fn reply_to<K: Sink>(
     alloc: Global,
-    run: Record,
+    ran: Ran,
     is_unsure: bool,
     telling: Telling,
     sink: &mut K,
 ) -> Reply
-    requires takes { TakesWords run.program (length run.words) }
-    requires sure { is_unsure ≡ false → IsReplayed run }
+    requires takes { TakesWords ran.run.program (length ran.run.words) }
+    requires sure { is_unsure ≡ false → IsReplayed ran.run }
     ensures later { K.faults sink.old ≤ K.faults sink.new }
-    ensures kept { IfSome result.kept (λ r. r ≡ run) }
+    ensures kept { IfSome result.kept (λ r. r ≡ ran.run) }
     ensures status { IsStatus result.kept result.status result.note }
     ensures cause { IsCauseOfTelling result.note (Rose (K.faults sink.old) (K.faults sink.new)) }
-    ensures written { Writes (text_owed (text_in telling) result.kept result.status) result.note (K.written sink.old) (K.written sink.new) }
-    ensures tells { (result.status ≡ 4 → ⊥) → StillTells (text_owed (text_in telling) result.kept result.status) (K.tells_for sink.old) (K.tells_for sink.new) (K.written sink.old) (K.written sink.new) }
+    ensures written { Tells (IsTextIn telling (source_of ran.ast)) result.kept result.status result.note (K.written sink.old) (K.written sink.new) (K.tells_for sink.old) (K.tells_for sink.new) }
 {
-    match is_replayed(alloc, &run, is_unsure) {
-        Ok(true) => write_reply(alloc, run, telling, sink),
+    match is_replayed(alloc, &ran.run, is_unsure) {
+        Ok(true) => tell_reply(alloc, ran, telling, sink),
         Ok(false) => Reply {
             status: 8,
             note: Note::Nothing,
-            kept: Some(run),
+            kept: Some(ran.run),
         },
         Err(_) => without_run(NoRun::OutOfMemory),
     }

@@ -9,7 +9,7 @@ ghost use Rattle.cw_top.specs.OverSource.{IsRunOfSource};
 ghost use Rattle.cw_top.specs.Runs.{HasSeveralThreads, HasSeveralWorkers, IsDoneAs, IsDoneBy, IsReady, IsRunOf};
 ghost use Rattle.cw_top.specs.Spent.{HasSpentMoves, IsSpentBy, IsSpentOn};
 ghost use Rattle.cw_top.specs.Taken.{Accepts, IsRefusedFor, HasRead, RisesAtMost, TakesAtMost, most_ends, most_read};
-ghost use Rattle.cw_top.specs.Written.{StillTells, Writes, WritesEndOfOneMemory, telling_of, text_of_command, text_owed};
+ghost use Rattle.cw_top.specs.Written.{IsTextBy, IsTextOf, Tells, WritesEndOfOneMemory, telling_of};
 ghost use Rattle.cw_words.specs.Words.{command_in};
 
 use crate::reasons::NoRun;
@@ -33,6 +33,7 @@ fn telling_of(command: &Command) -> Telling
         Command::Load { transfers, .. } => Telling::Summary {
             transfers: *transfers,
         },
+        Command::Keep { .. } => Telling::Sheet,
     }
 }
 
@@ -56,13 +57,12 @@ fn do_command<R: Threads + Wait + Sync, S: Source, K: Sink, G: Gate>(
     ensures once { RisesAtMost (most_ends (Some command)) (S.ends source.old) (S.ends source.new) }
     ensures run { IfSome result.kept (IsRunOf (Some command) (S.left source.old)) }
     ensures done { IfSome result.kept (IsDoneBy command) }
-    ensures written { Writes (text_owed (text_of_command (Some command)) result.kept result.status) result.note (K.written sink.old) (K.written sink.new) }
-    ensures tells { (result.status ≡ 4 → ⊥) → StillTells (text_owed (text_of_command (Some command)) result.kept result.status) (K.tells_for sink.old) (K.tells_for sink.new) (K.written sink.old) (K.written sink.new) }
+    ensures written { Tells (IsTextBy command (S.left source.old)) result.kept result.status result.note (K.written sink.old) (K.written sink.new) (K.tells_for sink.old) (K.tells_for sink.new) }
 {
     let telling = telling_of(&command);
     let is_unsure = has_several_threads(&command);
     match run_of(rt, alloc, command, source, gate) {
-        Ok(run) => reply_to(alloc, run, is_unsure, telling, sink),
+        Ok(ran) => reply_to(alloc, ran, is_unsure, telling, sink),
         Err(why) => without_run(why),
     }
 }
@@ -87,8 +87,7 @@ fn answer<R: Threads + Wait + Sync, S: Source, K: Sink, G: Gate>(
     ensures once { RisesAtMost (most_ends command) (S.ends source.old) (S.ends source.new) }
     ensures run { IfSome result.kept (IsRunOf command (S.left source.old)) }
     ensures done { IfSome result.kept (IsDoneAs command) }
-    ensures written { Writes (text_owed (text_of_command command) result.kept result.status) result.note (K.written sink.old) (K.written sink.new) }
-    ensures tells { (result.status ≡ 4 → ⊥) → StillTells (text_owed (text_of_command command) result.kept result.status) (K.tells_for sink.old) (K.tells_for sink.new) (K.written sink.old) (K.written sink.new) }
+    ensures written { Tells (IsTextOf command (S.left source.old)) result.kept result.status result.note (K.written sink.old) (K.written sink.new) (K.tells_for sink.old) (K.tells_for sink.new) }
 {
     match command {
         None => Reply {
@@ -106,7 +105,8 @@ fn answer<R: Threads + Wait + Sync, S: Source, K: Sink, G: Gate>(
 /// own if one can be started; a single worker runs depth first. `sim` does the moves of that many virtual workers. Both have the
 /// options `--fuel`, `--size`, `--aborts` and `--strands`; `sim` also has `--moves`, and `--schedule` or `--seed`. `load N` reads
 /// nothing. It runs the program of N transfers (`load_program`), from 1 to 20,000, as `run` does with the default limits, and
-/// writes N and the sum of all cells. Its one option is `--workers`.
+/// writes N and the sum of all cells. Its one option is `--workers`. `keep` runs as `run` does, without a report, and writes the whole
+/// run as a record sheet (`sheet_text`).
 ///
 /// A run of several threads is written only once one memory has done the same in its order; status 8 says that it did not. Each of
 /// these threads calls the gate before it looks for a task of another one, and before each try of a begin, an access or a commit.
@@ -164,7 +164,7 @@ pub fn cwstm<R: Threads + Wait + Sync, S: Source, K: Sink, G: Gate>(
     ensures threads { result.status ≡ 8 → HasSeveralThreads (command_in words.now) }
 
     // With status 0 the text of what one memory comes to was written.
-    ensures finished { result.status ≡ 0 → IsSomeAnd result.kept (λ r. WritesEndOfOneMemory (command_in words.now) r (K.written sink.old) (K.written sink.new)) }
+    ensures finished { result.status ≡ 0 → IsSomeAnd result.kept (λ r. WritesEndOfOneMemory (command_in words.now) (S.left source.old) r (K.written sink.old) (K.written sink.new)) }
 
     // The same without a word of records. If the source tells its bytes and the sink what it got, there is an order of picks under which one
     // memory, running the strands of the syntax tree that the bytes spell, ends finished, and what was written is the text of its outputs and
@@ -189,11 +189,10 @@ pub fn cwstm<R: Threads + Wait + Sync, S: Source, K: Sink, G: Gate>(
     // source is asked at most once at its end, and not again after it failed. Words that are no command, and a load, ask for
     // nothing.
     ensures once { RisesAtMost (most_ends (command_in words.now)) (S.ends source.old) (S.ends source.new) }
-    ensures written { Writes (text_owed (text_of_command (command_in words.now)) result.kept result.status) result.note (K.written sink.old) (K.written sink.new) }
 
-    // Unless a write failed, a sink that goes on telling for at least as many bytes as the text has still tells, and goes on for
-    // the rest.
-    ensures tells { (result.status ≡ 4 → ⊥) → StillTells (text_owed (text_of_command (command_in words.now)) result.kept result.status) (K.tells_for sink.old) (K.tells_for sink.new) (K.written sink.old) (K.written sink.new) }
+    // The owed text was written, or a front of it if a write failed; nothing, if none is owed. Unless a write failed, a sink that goes
+    // on telling for at least as many bytes as the text has still tells, and goes on for the rest.
+    ensures written { Tells (IsTextOf (command_in words.now) (S.left source.old)) result.kept result.status result.note (K.written sink.old) (K.written sink.new) (K.tells_for sink.old) (K.tells_for sink.new) }
 
     // Counts of faults never fall.
     ensures read_later { S.faults source.old ≤ S.faults source.new }

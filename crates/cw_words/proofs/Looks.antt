@@ -8,10 +8,10 @@ use Rattle.clap.specs.Words.{Text}
 use Rattle.cw_code.specs.declared.Limits.{Limits}
 use Rattle.cw_io.specs.declared.schedule.Schedule.{Schedule}
 use Rattle.cw_words.specs.declared.command.Command.{Command}
-use Rattle.cw_words.specs.Asked.{is_dash, load_from, run_from, sim_from}
+use Rattle.cw_words.specs.Asked.{is_dash, keep_from, load_from, run_from, sim_from}
 use Rattle.cw_words.specs.Options.{Given, are_known, given, number_given, number_within, sole_word}
 use Rattle.cw_code.specs.Ranges.{workers_option}
-use Rattle.cw_words.specs.Words.{command_of, limits_given, load_given, load_options, most_transfers, report_given, run_given, run_options, schedule_given, sim_given, sim_options}
+use Rattle.cw_words.specs.Words.{command_of, keep_given, keep_options, limits_given, load_given, load_options, most_transfers, report_given, run_given, run_options, schedule_given, sim_given, sim_options}
 use Rattle.cw_words.proofs.Whole.{HasDash, dash_given, dash_integers, or_cases}
 
 no_run : (g : Given) → list_any is_dash g.words ≡ true → run_given g ≡ None
@@ -60,6 +60,17 @@ no_load g d =
     go true None = refl
     go true (Some w) = refl
 
+no_keep : (g : Given) → list_any is_dash g.words ≡ true → keep_given g ≡ None
+no_keep g d =
+    ap (λ n. if are_known keep_options g.options then keep_from (limits_given g.options) (number_given workers_option g.options) n else None) (dash_integers g.words d)
+    ∙ go (are_known keep_options g.options) (limits_given g.options) (number_given workers_option g.options)
+  where
+    go : (k : Bool) (l : Option Limits) (w : Option ℕ) → (if k then keep_from l w None else None) ≡ None
+    go false l w = refl
+    go true None w = refl
+    go true (Some l) None = refl
+    go true (Some l) (Some w) = refl
+
 none_of : (make : Given → Option Command) → ((g : Given) → list_any is_dash g.words ≡ true → make g ≡ None) → (o : Option Given) → HasDash o → option_and_then make o ≡ None
 none_of make never None h = refl
 none_of make never (Some g) h = never g h
@@ -68,12 +79,13 @@ pub dash_refused : (ws : List Text) → list_any is_dash ws ≡ true → command
 dash_refused [] h = refl
 dash_refused (w ∷ ws) h = elim (or_cases (is_dash w) (list_any is_dash ws) h) [
   | inl d ↦ ap (λ x. command_of (x ∷ ws)) ((bytes_eq-Decides w (45 ∷ [])).0 d)
-  | inr d ↦ go (bytes_eq w (codes "run")) (bytes_eq w (codes "sim")) (bytes_eq w (codes "load")) (dash_given ws None d)
+  | inr d ↦ go (bytes_eq w (codes "run")) (bytes_eq w (codes "sim")) (bytes_eq w (codes "load")) (bytes_eq w (codes "keep")) (dash_given ws None d)
 ]
   where
-    go : (a b c : Bool) → HasDash (given ws)
-        → (if a then option_and_then run_given (given ws) else if b then option_and_then sim_given (given ws) else if c then option_and_then load_given (given ws) else None) ≡ None
-    go true b c h = none_of run_given no_run (given ws) h
-    go false true c h = none_of sim_given no_sim (given ws) h
-    go false false true h = none_of load_given no_load (given ws) h
-    go false false false h = refl
+    go : (a b c e : Bool) → HasDash (given ws)
+        → (if a then option_and_then run_given (given ws) else if b then option_and_then sim_given (given ws) else if c then option_and_then load_given (given ws) else if e then option_and_then keep_given (given ws) else None) ≡ None
+    go true b c e h = none_of run_given no_run (given ws) h
+    go false true c e h = none_of sim_given no_sim (given ws) h
+    go false false true e h = none_of load_given no_load (given ws) h
+    go false false false true h = none_of keep_given no_keep (given ws) h
+    go false false false false h = refl

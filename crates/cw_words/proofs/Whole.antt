@@ -19,14 +19,14 @@ use Rattle.cw_words.specs.Options.{given_on, has_hyphen, integer_of, is_equals, 
 use Rattle.cw_words.proofs.Fits.{or_right}
 use Rattle.cw_words.specs.Options.{Given, GivenOption, are_known, given, integers_of, number_in, option_value}
 use Rattle.cw_words.specs.Words as words
-use Rattle.cw_words.specs.Words.{command_of, load_given, load_options, run_given, run_options, sim_given, sim_options}
-use Rattle.cw_words.specs.Asked.{Values, is_dash, limits_from, load_asked, load_from, run_at, run_from, sim_at, sim_from, transfers_at, vals}
+use Rattle.cw_words.specs.Words.{command_of, keep_given, keep_options, load_given, load_options, run_given, run_options, sim_given, sim_options}
+use Rattle.cw_words.specs.Asked.{Values, is_dash, keep_at, keep_from, limits_from, load_asked, load_from, run_at, run_from, sim_at, sim_from, transfers_at, vals}
 use Rattle.cw_words.specs.Shapes.{fine, fits, has_no_odd, is_known, judged, leaf_rules}
 use Rattle.cw_words.proofs.Fits.{fits_known, fits_one, one_fits}
 use Rattle.std.proofs.Common.{inl, inr, ◌⊎◌}
 use Rattle.std.specs.List.{list_any}
 use Rattle.cw_words.specs.Shapes.{cli, is_odd}
-use Rattle.cw_words.proofs.Leaf.{Enters, other_first, leaf_judged, leaf_seen, load_fault, load_rows, run_fault, run_rows, sim_fault, sim_rows}
+use Rattle.cw_words.proofs.Leaf.{Enters, keep_fault, keep_rows, other_first, leaf_judged, leaf_seen, load_fault, load_rows, run_fault, run_rows, sim_fault, sim_rows}
 use Rattle.cw_words.proofs.Rows.{Sees}
 
 -- the values of the options by what was given
@@ -49,6 +49,10 @@ sim_same g val k e =
 
 pub load_same : (g : Given) (val : Values) → are_known load_options g.options ≡ true → IsValued g.options val → load_given g ≡ load_asked val g.words
 load_same g val k e = λ i. if k i then load_from (option_and_then (number_in workers_option) (e (codes "workers") refl i)) (transfers_at g.words) else None
+
+pub keep_same : (g : Given) (val : Values) → are_known keep_options g.options ≡ true → IsValued g.options val → keep_given g ≡ keep_at val g.words
+keep_same g val k e =
+    λ i. if k i then keep_from (limits_same g.options val e i) (option_and_then (number_in workers_option) (e (codes "workers") refl i)) (integers_of g.words) else None
 
 first_vals : (j : Text) (rows : List Row) → slice_get (vals j rows) 0 ≡ first_of j rows
 first_vals j rows = go (find (λ r. bytes_eq r.id j) rows)
@@ -175,6 +179,37 @@ run_missing g h =
     go true (Some f) (Some s) (Some a) (Some st) m (Some w) None h = run_report (limits_from (option_and_then (number_in fuel_option) (Some f)) (option_and_then (number_in size_option) (Some s)) (option_and_then (number_in aborts_option) (Some a)) (option_and_then (number_in strands_option) (Some st)) (option_and_then (number_in moves_option) m)) (option_and_then (number_in workers_option) (Some w)) (integers_of g.words)
     go true (Some f) (Some s) (Some a) (Some st) m (Some w) (Some r) h = absurd (true≢false h)
 
+keep_workers : (l : Option Limits) (n : Option (List ℤ)) → keep_from l None n ≡ None
+keep_workers None n = refl
+keep_workers (Some l) n = refl
+
+abbrev keep_parts : Bool → (f s a st m w : Twice) → List Text → Option Command
+keep_parts k f s a st m w ws =
+    if k then keep_from (limits_from (option_and_then (number_in fuel_option) f) (option_and_then (number_in size_option) s) (option_and_then (number_in aborts_option) a) (option_and_then (number_in strands_option) st) (option_and_then (number_in moves_option) m))
+    (option_and_then (number_in workers_option) w) (integers_of ws) else None
+
+pub keep_unknown : (g : Given) → are_known keep_options g.options ≡ false → keep_given g ≡ None
+keep_unknown g k =
+    let v = λ (n : Text). option_value n g.options in
+    ap (λ t. keep_parts t (v (codes "fuel")) (v (codes "size")) (v (codes "aborts")) (v (codes "strands")) (v (codes "moves")) (v (codes "workers")) g.words) k
+
+pub keep_missing : (g : Given) → list_all (λ n. is_some (option_value n g.options)) keep_options ≡ false → keep_given g ≡ None
+keep_missing g h =
+    let v = λ (n : Text). option_value n g.options in
+    go (are_known keep_options g.options) (v (codes "fuel")) (v (codes "size")) (v (codes "aborts")) (v (codes "strands")) (v (codes "moves")) (v (codes "workers")) h
+  where
+    limited : (f s a st m w : Twice) → limits_from (option_and_then (number_in fuel_option) f) (option_and_then (number_in size_option) s) (option_and_then (number_in aborts_option) a) (option_and_then (number_in strands_option) st) (option_and_then (number_in moves_option) m) ≡ None → keep_parts true f s a st m w g.words ≡ None
+    limited f s a st m w e = ap (λ l. keep_from l (option_and_then (number_in workers_option) w) (integers_of g.words)) e
+
+    go : (k : Bool) (f s a st m w : Twice) → (is_some f && (is_some s && (is_some a && (is_some st && (is_some w && true))))) ≡ false → keep_parts k f s a st m w g.words ≡ None
+    go false f s a st m w h = refl
+    go true None s a st m w h = refl
+    go true (Some f) None a st m w h = limited (Some f) None a st m w (limits_none (Some f) None a st m refl)
+    go true (Some f) (Some s) None st m w h = limited (Some f) (Some s) None st m w (limits_none (Some f) (Some s) None st m refl)
+    go true (Some f) (Some s) (Some a) None m w h = limited (Some f) (Some s) (Some a) None m w (limits_none (Some f) (Some s) (Some a) None m refl)
+    go true (Some f) (Some s) (Some a) (Some st) m None h = keep_workers (limits_from (option_and_then (number_in fuel_option) (Some f)) (option_and_then (number_in size_option) (Some s)) (option_and_then (number_in aborts_option) (Some a)) (option_and_then (number_in strands_option) (Some st)) (option_and_then (number_in moves_option) m)) (integers_of g.words)
+    go true (Some f) (Some s) (Some a) (Some st) m (Some w) h = absurd (true≢false h)
+
 limits_moves : (a b c d : Option ℕ) → limits_from a b c d None ≡ None
 limits_moves None b c d = refl
 limits_moves (Some a) None c d = refl
@@ -274,6 +309,17 @@ sim_refused ws even e =
     refused sim_options refl sim_given sim_at sim_same sim_unknown sim_missing ws
     (sym (leaf_judged (codes "sim") sim_options refl ws even) ∙ sym (ap fine (sim_fault ws)) ∙ e)
 
+pub keep_taken : (ws : List Text) → has_no_odd ws ≡ true → fault_of cli (codes "keep" ∷ ws) ≡ []
+    → command_of (codes "keep" ∷ ws) ≡ keep_at (λ j. first_of j (rows_after (leaf_rules keep_options) [] ws)) (vals (codes "words") (rows_after (leaf_rules keep_options) [] ws))
+keep_taken ws even e =
+    taken keep_options refl keep_given keep_at keep_same keep_unknown keep_missing ws
+    (sym (leaf_judged (codes "keep") keep_options refl ws even) ∙ ap fine (sym (keep_fault ws) ∙ e))
+
+pub keep_refused : (ws : List Text) → has_no_odd ws ≡ true → fine (fault_of cli (codes "keep" ∷ ws)) ≡ false → command_of (codes "keep" ∷ ws) ≡ None
+keep_refused ws even e =
+    refused keep_options refl keep_given keep_at keep_same keep_unknown keep_missing ws
+    (sym (leaf_judged (codes "keep") keep_options refl ws even) ∙ sym (ap fine (keep_fault ws)) ∙ e)
+
 -- the command by the subcommand that a parse enters, and its rows
 abbrev pub command_by : Option (Text × List Row) → Option Command
 command_by None = None
@@ -281,39 +327,43 @@ command_by (Some p) =
     if bytes_eq p.0 (codes "run") then run_at (λ j. first_of j p.1) (vals (codes "words") p.1)
     else if bytes_eq p.0 (codes "sim") then sim_at (λ j. first_of j p.1) (vals (codes "words") p.1)
     else if bytes_eq p.0 (codes "load") then load_asked (λ j. first_of j p.1) (vals (codes "words") p.1)
+    else if bytes_eq p.0 (codes "keep") then keep_at (λ j. first_of j p.1) (vals (codes "words") p.1)
     else None
 
 abbrev is_name : Text → Bool
-is_name w = bytes_eq w (codes "run") || (bytes_eq w (codes "sim") || bytes_eq w (codes "load"))
+is_name w = bytes_eq w (codes "run") || (bytes_eq w (codes "sim") || (bytes_eq w (codes "load") || bytes_eq w (codes "keep")))
 
 no_name : (w : Text) (ws : List Text) → is_name w ≡ false → command_of (w ∷ ws) ≡ None
-no_name w ws = go (bytes_eq w (codes "run")) (bytes_eq w (codes "sim")) (bytes_eq w (codes "load"))
+no_name w ws = go (bytes_eq w (codes "run")) (bytes_eq w (codes "sim")) (bytes_eq w (codes "load")) (bytes_eq w (codes "keep"))
   where
-    go : (a b c : Bool) → (a || (b || c)) ≡ false
-        → (if a then option_and_then run_given (given ws) else if b then option_and_then sim_given (given ws) else if c then option_and_then load_given (given ws) else None) ≡ None
-    go true b c e = absurd (true≢false e)
-    go false true c e = absurd (true≢false e)
-    go false false true e = absurd (true≢false e)
-    go false false false e = refl
+    go : (a b c d : Bool) → (a || (b || (c || d))) ≡ false
+        → (if a then option_and_then run_given (given ws) else if b then option_and_then sim_given (given ws) else if c then option_and_then load_given (given ws) else if d then option_and_then keep_given (given ws) else None) ≡ None
+    go true b c d e = absurd (true≢false e)
+    go false true c d e = absurd (true≢false e)
+    go false false true d e = absurd (true≢false e)
+    go false false false true e = absurd (true≢false e)
+    go false false false false e = refl
 
 module _ (ws : List Text) (even : has_no_odd ws ≡ true) where
   pub whole_refused : (w : Text) → fine (fault_of cli (w ∷ ws)) ≡ false → command_of (w ∷ ws) ≡ None
-  whole_refused w e = go (bytes_eq w (codes "run")) (bytes_eq w (codes "sim")) (bytes_eq w (codes "load")) refl refl refl
+  whole_refused w e = go (bytes_eq w (codes "run")) (bytes_eq w (codes "sim")) (bytes_eq w (codes "load")) (bytes_eq w (codes "keep")) refl refl refl refl
     where
-      go : (a b c : Bool) → bytes_eq w (codes "run") ≡ a → bytes_eq w (codes "sim") ≡ b → bytes_eq w (codes "load") ≡ c → command_of (w ∷ ws) ≡ None
-      go true b c i j k = subst (λ x. fine (fault_of cli (x ∷ ws)) ≡ false → command_of (x ∷ ws) ≡ None) (sym ((bytes_eq-Decides w (codes "run")).0 i)) (run_refused ws even) e
-      go false true c i j k = subst (λ x. fine (fault_of cli (x ∷ ws)) ≡ false → command_of (x ∷ ws) ≡ None) (sym ((bytes_eq-Decides w (codes "sim")).0 j)) (sim_refused ws even) e
-      go false false true i j k = subst (λ x. fine (fault_of cli (x ∷ ws)) ≡ false → command_of (x ∷ ws) ≡ None) (sym ((bytes_eq-Decides w (codes "load")).0 k)) (load_refused ws even) e
-      go false false false i j k = no_name w ws ((λ z. i z || (j z || k z)))
+      go : (a b c d : Bool) → bytes_eq w (codes "run") ≡ a → bytes_eq w (codes "sim") ≡ b → bytes_eq w (codes "load") ≡ c → bytes_eq w (codes "keep") ≡ d → command_of (w ∷ ws) ≡ None
+      go true b c d i j k l = subst (λ x. fine (fault_of cli (x ∷ ws)) ≡ false → command_of (x ∷ ws) ≡ None) (sym ((bytes_eq-Decides w (codes "run")).0 i)) (run_refused ws even) e
+      go false true c d i j k l = subst (λ x. fine (fault_of cli (x ∷ ws)) ≡ false → command_of (x ∷ ws) ≡ None) (sym ((bytes_eq-Decides w (codes "sim")).0 j)) (sim_refused ws even) e
+      go false false true d i j k l = subst (λ x. fine (fault_of cli (x ∷ ws)) ≡ false → command_of (x ∷ ws) ≡ None) (sym ((bytes_eq-Decides w (codes "load")).0 k)) (load_refused ws even) e
+      go false false false true i j k l = subst (λ x. fine (fault_of cli (x ∷ ws)) ≡ false → command_of (x ∷ ws) ≡ None) (sym ((bytes_eq-Decides w (codes "keep")).0 l)) (keep_refused ws even) e
+      go false false false false i j k l = no_name w ws (λ z. i z || (j z || (k z || l z)))
 
   pub named_taken : (w : Text) → is_name w ≡ true → fault_of cli (w ∷ ws) ≡ [] → command_of (w ∷ ws) ≡ command_by (subcommand_of cli (w ∷ ws))
-  named_taken w n e = go (bytes_eq w (codes "run")) (bytes_eq w (codes "sim")) (bytes_eq w (codes "load")) refl refl refl
+  named_taken w n e = go (bytes_eq w (codes "run")) (bytes_eq w (codes "sim")) (bytes_eq w (codes "load")) (bytes_eq w (codes "keep")) refl refl refl refl
     where
-      go : (a b c : Bool) → bytes_eq w (codes "run") ≡ a → bytes_eq w (codes "sim") ≡ b → bytes_eq w (codes "load") ≡ c → command_of (w ∷ ws) ≡ command_by (subcommand_of cli (w ∷ ws))
-      go true b c i j k = subst (λ x. fault_of cli (x ∷ ws) ≡ [] → command_of (x ∷ ws) ≡ command_by (subcommand_of cli (x ∷ ws))) (sym ((bytes_eq-Decides w (codes "run")).0 i)) (λ f. run_taken ws even f ∙ sym (ap command_by (run_rows ws))) e
-      go false true c i j k = subst (λ x. fault_of cli (x ∷ ws) ≡ [] → command_of (x ∷ ws) ≡ command_by (subcommand_of cli (x ∷ ws))) (sym ((bytes_eq-Decides w (codes "sim")).0 j)) (λ f. sim_taken ws even f ∙ sym (ap command_by (sim_rows ws))) e
-      go false false true i j k = subst (λ x. fault_of cli (x ∷ ws) ≡ [] → command_of (x ∷ ws) ≡ command_by (subcommand_of cli (x ∷ ws))) (sym ((bytes_eq-Decides w (codes "load")).0 k)) (λ f. load_taken ws even f ∙ sym (ap command_by (load_rows ws))) e
-      go false false false i j k = absurd (true≢false (sym n ∙ (λ z. i z || (j z || k z))))
+      go : (a b c d : Bool) → bytes_eq w (codes "run") ≡ a → bytes_eq w (codes "sim") ≡ b → bytes_eq w (codes "load") ≡ c → bytes_eq w (codes "keep") ≡ d → command_of (w ∷ ws) ≡ command_by (subcommand_of cli (w ∷ ws))
+      go true b c d i j k l = subst (λ x. fault_of cli (x ∷ ws) ≡ [] → command_of (x ∷ ws) ≡ command_by (subcommand_of cli (x ∷ ws))) (sym ((bytes_eq-Decides w (codes "run")).0 i)) (λ f. run_taken ws even f ∙ sym (ap command_by (run_rows ws))) e
+      go false true c d i j k l = subst (λ x. fault_of cli (x ∷ ws) ≡ [] → command_of (x ∷ ws) ≡ command_by (subcommand_of cli (x ∷ ws))) (sym ((bytes_eq-Decides w (codes "sim")).0 j)) (λ f. sim_taken ws even f ∙ sym (ap command_by (sim_rows ws))) e
+      go false false true d i j k l = subst (λ x. fault_of cli (x ∷ ws) ≡ [] → command_of (x ∷ ws) ≡ command_by (subcommand_of cli (x ∷ ws))) (sym ((bytes_eq-Decides w (codes "load")).0 k)) (λ f. load_taken ws even f ∙ sym (ap command_by (load_rows ws))) e
+      go false false false true i j k l = subst (λ x. fault_of cli (x ∷ ws) ≡ [] → command_of (x ∷ ws) ≡ command_by (subcommand_of cli (x ∷ ws))) (sym ((bytes_eq-Decides w (codes "keep")).0 l)) (λ f. keep_taken ws even f ∙ sym (ap command_by (keep_rows ws))) e
+      go false false false false i j k l = absurd (true≢false (sym n ∙ (λ z. i z || (j z || (k z || l z)))))
 
   flipped : (x y : Text) → bytes_eq x y ≡ false → bytes_eq y x ≡ false
   flipped x y e = go (bytes_eq y x) refl
@@ -324,17 +374,18 @@ module _ (ws : List Text) (even : has_no_odd ws ≡ true) where
 
   -- a parse that does not fail gives the command that the words are
   pub whole_taken : (w : Text) → is_odd w ≡ false → fault_of cli (w ∷ ws) ≡ [] → command_of (w ∷ ws) ≡ command_by (subcommand_of cli (w ∷ ws))
-  whole_taken w o e = go (bytes_eq w (codes "run")) (bytes_eq w (codes "sim")) (bytes_eq w (codes "load")) refl refl refl
+  whole_taken w o e = go (bytes_eq w (codes "run")) (bytes_eq w (codes "sim")) (bytes_eq w (codes "load")) (bytes_eq w (codes "keep")) refl refl refl refl
     where
       other : Enters w ws → command_of (w ∷ ws) ≡ None → command_of (w ∷ ws) ≡ command_by (subcommand_of cli (w ∷ ws))
       other (inl f) none = absurd (true≢false (sym (ap fine e) ∙ f))
       other (inr s) none = none ∙ sym (ap command_by s)
 
-      go : (a b c : Bool) → bytes_eq w (codes "run") ≡ a → bytes_eq w (codes "sim") ≡ b → bytes_eq w (codes "load") ≡ c → command_of (w ∷ ws) ≡ command_by (subcommand_of cli (w ∷ ws))
-      go true b c i j k = named_taken w (ap (λ t. t || (bytes_eq w (codes "sim") || bytes_eq w (codes "load"))) i) e
-      go false true c i j k = named_taken w (λ z. i z || (j z || bytes_eq w (codes "load"))) e
-      go false false true i j k = named_taken w (λ z. i z || (j z || k z)) e
-      go false false false i j k = other (other_first ws w (flipped w (codes "run") i) (flipped w (codes "sim") j) (flipped w (codes "load") k) o) (no_name w ws (λ z. i z || (j z || k z)))
+      go : (a b c d : Bool) → bytes_eq w (codes "run") ≡ a → bytes_eq w (codes "sim") ≡ b → bytes_eq w (codes "load") ≡ c → bytes_eq w (codes "keep") ≡ d → command_of (w ∷ ws) ≡ command_by (subcommand_of cli (w ∷ ws))
+      go true b c d i j k l = named_taken w (ap (λ t. t || (bytes_eq w (codes "sim") || (bytes_eq w (codes "load") || bytes_eq w (codes "keep")))) i) e
+      go false true c d i j k l = named_taken w (λ z. i z || (j z || (bytes_eq w (codes "load") || bytes_eq w (codes "keep")))) e
+      go false false true d i j k l = named_taken w (λ z. i z || (j z || (k z || bytes_eq w (codes "keep")))) e
+      go false false false true i j k l = named_taken w (λ z. i z || (j z || (k z || l z))) e
+      go false false false false i j k l = other (other_first ws w (flipped w (codes "run") i) (flipped w (codes "sim") j) (flipped w (codes "load") k) (flipped w (codes "keep") l) o) (no_name w ws (λ z. i z || (j z || (k z || l z))))
 
 -- ## `-` as a word
 

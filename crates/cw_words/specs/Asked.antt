@@ -9,7 +9,7 @@ use Rattle.cw_code.specs.declared.Limits.{Limits}
 use Rattle.cw_code.specs.Ranges.{NumberOption, aborts_option, fuel_option, moves_option, size_option, strands_option, workers_option}
 use Rattle.cw_io.specs.declared.schedule.Schedule.{Schedule}
 use Rattle.cw_words.specs.declared.command.Command.{Command}
-use Rattle.cw_words.specs.declared.command.Command.TheVariants.{Run, Sim, Load}
+use Rattle.cw_words.specs.declared.command.Command.TheVariants.{Run, Sim, Load, Keep}
 use Rattle.cw_words.specs.Options.{integers_of, number_in, number_within, sole_word}
 use Rattle.cw_words.specs.Words.{most_transfers, report_in, schedule_in}
 
@@ -75,3 +75,9 @@ load_from workers transfers = option_and_then (λ w. option_map (λ n. Load n w)
 
 abbrev pub load_asked : Values → List Text → Option Command
 load_asked val ws = load_from (number_at workers_option val) (transfers_at ws)
+
+abbrev pub keep_from : Option Limits → Option ℕ → Option (List ℤ) → Option Command
+keep_from limits workers integers = option_and_then (λ l. option_and_then (λ w. option_map (λ ns. Keep ns l w) integers) workers) limits
+
+abbrev pub keep_at : Values → List Text → Option Command
+keep_at val ws = keep_from (limits_at val) (number_at workers_option val) (integers_of ws)

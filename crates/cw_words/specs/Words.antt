@@ -1,5 +1,5 @@
--- Which words are a command, and what they say. There are three commands. `run` has six options and `sim` has nine, and both have
--- the words of main. `load` has one option and a number.
+-- Which words are a command, and what they say. There are four commands. `run` has six options, `keep` has five of them and `sim`
+-- has nine, and all three have the words of main. `load` has one option and a number.
 use Rattle.std.specs.Prelude.{◌-◌, ◌^◌, Bool, true, false, List, [], ◌∷◌, ℕ, ℤ, Option, Some, None, codes, if◌then◌else◌, map, option_and_then, option_map, string_bytes, String}
 use Rattle.std.specs.declared.alloc.Global.{Global}
 use Rattle.std.specs.Str.{bytes_eq}
@@ -8,7 +8,7 @@ use Rattle.cw_code.specs.Ranges.{aborts_option, default_limits, fuel_option, mov
 use Rattle.cw_io.specs.declared.schedule.Schedule.{Schedule}
 use Rattle.cw_io.specs.declared.schedule.Schedule.TheVariants.{List as Listed, Seeded}
 use Rattle.cw_words.specs.declared.command.Command.{Command}
-use Rattle.cw_words.specs.declared.command.Command.TheVariants.{Run, Sim, Load}
+use Rattle.cw_words.specs.declared.command.Command.TheVariants.{Run, Sim, Load, Keep}
 use Rattle.cw_words.specs.Options.{Given, GivenOption, are_known, given, integers_of, list_below, number_given, number_within, sole_word, option_value}
 
 -- ## Options
@@ -22,6 +22,9 @@ sim_options = codes "fuel" ∷ codes "size" ∷ codes "aborts" ∷ codes "strand
 
 abbrev pub load_options : List (List ℕ)
 load_options = codes "workers" ∷ []
+
+abbrev pub keep_options : List (List ℕ)
+keep_options = codes "fuel" ∷ codes "size" ∷ codes "aborts" ∷ codes "strands" ∷ codes "workers" ∷ []
 
 -- The limits that options give. A limit that is not given, or that is no option of the command, has its default.
 abbrev pub limits_given : List GivenOption → Option Limits
@@ -90,6 +93,14 @@ load_given g =
     if are_known load_options g.options then option_and_then (λ workers. option_map (λ n. Load n workers) (transfers_given g)) (number_given workers_option g.options)
     else None
 
+-- the kept run that options and words ask for
+abbrev pub keep_given : Given → Option Command
+keep_given g =
+    if are_known keep_options g.options then
+    option_and_then (λ limits. option_and_then (λ workers. option_map (λ ns. Keep ns limits workers)
+    (integers_of g.words)) (number_given workers_option g.options)) (limits_given g.options)
+    else None
+
 -- The first word says which command it is.
 abbrev pub command_of : List (List ℕ) → Option Command
 command_of [] = None
@@ -97,17 +108,20 @@ command_of (name ∷ words) =
     if bytes_eq name (codes "run") then option_and_then run_given (given words)
     else if bytes_eq name (codes "sim") then option_and_then sim_given (given words)
     else if bytes_eq name (codes "load") then option_and_then load_given (given words)
+    else if bytes_eq name (codes "keep") then option_and_then keep_given (given words)
     else None
 
 abbrev pub words_of : Command → List ℤ
 words_of (Run words limits workers report) = words
 words_of (Sim words limits workers schedule report) = words
 words_of (Load transfers workers) = []
+words_of (Keep words limits workers) = words
 
 abbrev pub limits_of : Command → Limits
 limits_of (Run words limits workers report) = limits
 limits_of (Sim words limits workers schedule report) = limits
 limits_of (Load transfers workers) = default_limits
+limits_of (Keep words limits workers) = limits
 
 -- the command that the words behind the program's name are, if they are one
 abbrev pub command_in : List (String Global) → Option Command

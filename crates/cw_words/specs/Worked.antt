@@ -6,7 +6,7 @@ use Rattle.cw_code.specs.Ranges.{default_limits}
 use Rattle.cw_io.specs.declared.schedule.Schedule.{Schedule}
 use Rattle.cw_io.specs.declared.schedule.Schedule.TheVariants.{List as Listed, Seeded}
 use Rattle.cw_words.specs.declared.command.Command.{Command}
-use Rattle.cw_words.specs.declared.command.Command.TheVariants.{Run, Sim, Load}
+use Rattle.cw_words.specs.declared.command.Command.TheVariants.{Run, Sim, Load, Keep}
 use Rattle.cw_words.specs.Options.{list_below}
 use Rattle.cw_words.specs.Words.{command_of}
 
@@ -181,3 +181,17 @@ pub record Loads : Type 0 where
   pub many_workers : command_of (codes "load" ∷ codes "--workers=65" ∷ codes "5" ∷ []) ≡ None
   pub fuel : command_of (codes "load" ∷ codes "--fuel" ∷ codes "1" ∷ codes "5" ∷ []) ≡ None
   pub report : command_of (codes "load" ∷ codes "5" ∷ codes "--report=1" ∷ []) ≡ None
+
+pub record Keeps : Type 0 where
+  pub plain : command_of (codes "keep" ∷ []) ≡ Some (Keep [] default_limits 4)
+  pub all : command_of (codes "keep" ∷ codes "--workers" ∷ codes "2" ∷ codes "--fuel=3" ∷ codes "--size" ∷ codes "4" ∷ codes "7" ∷ codes "--aborts=5" ∷ codes "--strands" ∷ codes "6" ∷ codes "--" ∷ codes "-9" ∷ [])
+      ≡ Some (Keep (pos 7 ∷ neg_ℤ (pos 9) ∷ []) (record default_limits { fuel = 3; size = 4; aborts = 5; strands = 6 }) 2)
+  pub capital : command_of (codes "Keep" ∷ []) ≡ None
+  -- options of other commands
+  pub report : command_of (codes "keep" ∷ codes "--report" ∷ codes "1" ∷ []) ≡ None
+  pub moves : command_of (codes "keep" ∷ codes "--moves=5" ∷ []) ≡ None
+  pub seed : command_of (codes "keep" ∷ codes "--seed" ∷ codes "1" ∷ []) ≡ None
+  -- no word of main, and an option given twice
+  pub letter : command_of (codes "keep" ∷ codes "x" ∷ []) ≡ None
+  pub workers_twice : command_of (codes "keep" ∷ codes "--workers=4" ∷ codes "--workers" ∷ codes "4" ∷ []) ≡ None
+  pub no_workers : command_of (codes "keep" ∷ codes "--workers=0" ∷ []) ≡ None

@@ -1,7 +1,7 @@
 ghost use Rattle.std.specs.Prelude.{◌≡◌, IfOk, false, length, map, string_bytes, true};
 ghost use Rattle.std.specs.List.{list_any};
 ghost use Rattle.clap.specs.Words.{found_of};
-ghost use Rattle.cw_words.specs.Asked.{is_dash, load_asked, run_at, sim_at, value_in, words_in};
+ghost use Rattle.cw_words.specs.Asked.{is_dash, keep_at, load_asked, run_at, sim_at, value_in, words_in};
 ghost use Rattle.cw_words.specs.Shapes.{has_no_odd};
 ghost use Rattle.cw_words.specs.Words.{command_of, words_of};
 
@@ -38,6 +38,12 @@ pub enum Command {
         transfers: u32,
         workers: u32,
     },
+    /// Runs a program as `Run` does, and writes the whole run down as a record sheet.
+    Keep {
+        words: Seq<i64>,
+        limits: Limits,
+        workers: u32,
+    },
 }
 
 impl Command {
@@ -46,7 +52,8 @@ impl Command {
         ensures { result ≡ length (words_of self.now) }
     {
         match self {
-            Command::Run { words, .. } | Command::Sim { words, .. } => words.len(),
+            Command::Run { words, .. } | Command::Sim { words, .. } | Command::Keep { words, .. } =>
+                words.len(),
             Command::Load { .. } => 0,
         }
     }
@@ -113,6 +120,26 @@ fn load_with(found: &ArgMatches<'_>) -> Option<Command>
     Some(Command::Load { transfers, workers })
 }
 
+// Returns the kept run that options and words ask for.
+fn keep_with(alloc: Global, found: &ArgMatches<'_>) -> Result<Option<Command>, OutOfMemory>
+    ensures { IfOk result (λ c. c ≡ keep_at (value_in (found_of found.now)) (words_in (found_of found.now))) }
+{
+    let Some(limits) = limits_of(found) else {
+        return Ok(None);
+    };
+    let Some(workers) = workers_of(found) else {
+        return Ok(None);
+    };
+    let Some(kept) = integers_of(alloc, found) else {
+        return Ok(None);
+    };
+    Ok(Some(Command::Keep {
+        words: kept?,
+        limits,
+        workers,
+    }))
+}
+
 // Whether one of the words is `-`. clap takes it as a value or a plain word.
 fn has_hyphen_alone(words: &[String]) -> bool
     ensures dash { result ≡ list_any is_dash (map string_bytes words.now) }
@@ -151,6 +178,8 @@ pub fn command_of(alloc: Global, words: &[String]) -> Result<Option<Command>, Ou
         sim_with(alloc, found)
     } else if name == "load" {
         Ok(load_with(found))
+    } else if name == "keep" {
+        keep_with(alloc, found)
     } else {
         Ok(None)
     }

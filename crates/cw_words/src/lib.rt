@@ -9,7 +9,7 @@ mod command;
 mod line;
 mod options;
 
-ghost use Rattle.cw_words.specs.Worked.{Commands, Loads, Simulations};
+ghost use Rattle.cw_words.specs.Worked.{Commands, Keeps, Loads, Simulations};
 
 pub use command::{Command, command_of};
 
@@ -18,4 +18,5 @@ pub fn worked_words()
     ensures runs { Commands }
     ensures simulations { Simulations }
     ensures loads { Loads }
+    ensures keeps { Keeps }
 {}

@@ -47,20 +47,24 @@ static SIM_OPTIONS: [&str; 9] = [
 
 static LOAD_OPTIONS: [&str; 1] = ["workers"];
 
-// Returns the command line: three commands, with neither help nor version.
+static KEEP_OPTIONS: [&str; 5] = ["fuel", "size", "aborts", "strands", "workers"];
+
+// Returns the command line: four commands, with neither help nor version.
 fn command_line<'a>(alloc: Global) -> Result<Command<'a>, AllocError>
     ensures { IfOk result (λ r. app_of r ≡ cli) }
 {
     let run = command_with(alloc, "run", RUN_OPTIONS.as_slice())?;
     let sim = command_with(alloc, "sim", SIM_OPTIONS.as_slice())?;
     let load = command_with(alloc, "load", LOAD_OPTIONS.as_slice())?;
+    let keep = command_with(alloc, "keep", KEEP_OPTIONS.as_slice())?;
     Command::new(alloc, "cwstm")
         .no_binary_name(true)
         .disable_help_flag(true)
         .disable_help_subcommand(true)
         .subcommand(run)?
         .subcommand(sim)?
-        .subcommand(load)
+        .subcommand(load)?
+        .subcommand(keep)
 }
 
 /// Parses the words as clap does. It takes `-` as a word or a value, so it needs words that do not have it.

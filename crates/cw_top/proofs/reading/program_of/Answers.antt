@@ -6,12 +6,9 @@ use Rattle.cw_code.specs.declared.instruction.Code.{Code}
 use Rattle.cw_strand.proofs.CompiledCancels.{code_has_its_cancels}
 use Rattle.cw_top.proofs.reading.program_of.Goals as goal
 
-pub returns-clause-spelled : goal.returns-clause-spelled
-returns-clause-spelled c = (source_of c.in_ok-ast.ast, (c.in_ok-ast.ensures.exact, c.in_ok-compile.ensures.compiled))
-
 pub returns-clause-cancels : goal.returns-clause-cancels
 returns-clause-cancels c =
     λ one.
     let source = source_of c.in_ok-ast.ast in
     let exact = rw one at c.in_ok-ast.ensures.exact in
-    ap (λ (x : Code). cancels x) c.in_ok-compile.ensures.compiled.code ∙ (code_has_its_cancels source.items ∙ newest_one_has_none c.args.bytes.now source exact)
+    ap (λ (x : Code). cancels x) c.in_ok-program.ensures.compiled.code ∙ (code_has_its_cancels source.items ∙ newest_one_has_none c.args.bytes.now source exact)

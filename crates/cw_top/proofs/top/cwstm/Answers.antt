@@ -59,7 +59,7 @@ pub returns-clause-disagrees : goal.returns-clause-disagrees
 returns-clause-disagrees g c = checks.disagrees _ _ _ c.answer.ensures.status
 
 pub returns-clause-silent : goal.returns-clause-silent
-returns-clause-silent g c = checks.silent _ _ _ _ _ _ c.answer.ensures.status c.answer.ensures.written
+returns-clause-silent g c = checks.silent _ _ _ _ _ _ c.answer.ensures.status c.answer.ensures.written.written
 
 pub returns-clause-threads : goal.returns-clause-threads
 returns-clause-threads g c =
@@ -70,13 +70,13 @@ pub returns-clause-finished : goal.returns-clause-finished
 returns-clause-finished g c =
     let run = rw c.in-Ok.ensures.exact at c.answer.ensures.run in
     let written = rw c.in-Ok.ensures.exact at c.answer.ensures.written in
-    statuses.finished _ _ _ _ _ _ _ c.answer.ensures.status run written
+    statuses.finished _ _ _ _ _ _ _ _ _ c.answer.ensures.status run written
 
 pub returns-clause-one_memory : goal.returns-clause-one_memory
 returns-clause-one_memory g c =
     let run = rw c.in-Ok.ensures.exact at c.answer.ensures.run in
     let written = rw c.in-Ok.ensures.exact at c.answer.ensures.written in
-    one_memory _ _ _ _ _ _ _ c.answer.ensures.status run written
+    one_memory _ _ _ _ _ _ _ _ _ c.answer.ensures.status run written
 
 pub returns-clause-spent : goal.returns-clause-spent
 returns-clause-spent g c =
