@@ -1,7 +1,7 @@
 #!/usr/bin/env bash
-# Shows that looking for races costs in proportion to the accesses: 100,000 and 1,000,000 accesses in one strand, in a spawned strand each,
-# in strands inside each other, and of one cell that all of them read. Each time is that of the whole command: reading, running, searching
-# and writing. 1,000,000 accesses take at most 1.5 times as long each as 100,000, under 2 s and under 500 MB in all.
+# Shows that looking for races costs in proportion to the accesses: 100,000 and 1,000,000 accesses in one strand, in a spawned strand
+# each, in strands inside each other, and of one cell that all of them read. Each time is that of the whole command: reading, running,
+# searching and writing. 1,000,000 accesses take at most 1.5 times as long each as 100,000, under 2 s and under 500 MB in all.
 # Usage: bench/races.sh PROGRAM, with the program as the gate builds it: crates/cwstm/out/cwstm, once `rt ci` has passed.
 # Ends with status 1 if it is not so.
 set -eu

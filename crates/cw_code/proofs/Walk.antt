@@ -8,7 +8,7 @@ use Rattle.cw_code.specs.declared.instruction.Func.{Func}
 use Rattle.cw_code.specs.declared.instruction.Code.{Code}
 use Rattle.cw_code.specs.Table.{Effect}
 use Rattle.cw_code.specs.Rules.{Situation, effect_of, pops, operand_faults, at_start, passed, onwards, jumps, never_passed, natural, if_inside, target_of, inside, is_target, is_border, is_torn}
-use Rattle.cw_code.specs.Walked.{behind, walked}
+use Rattle.cw_code.specs.Walked.{left_by, walked}
 use Rattle.cw_code.proofs.Expected.{FitsAt, next_behind}
 
 -- the situation with h operands and these parts
@@ -27,7 +27,7 @@ module _ (c : Code) (f : Func) where
       let n = p - f.start in
       let more : p + 1 - f.start ≡ suc n = omega arith in
       let back : f.start + n ≡ p = omega arith in
-      ap (walked c f) more ∙ ap (λ q. behind c (slice_get c.instrs q) (walked c f n)) back ∙ ap (λ o. behind c o (walked c f n)) is
+      ap (walked c f) more ∙ ap (λ q. left_by c (slice_get c.instrs q) (walked c f n)) back ∙ ap (λ o. left_by c o (walked c f n)) is
 
   -- The instructions from one place up to another fit, and behind them this is expected.
   pub record Walks (p q : ℕ) (t : Situation) : Type 0 where

@@ -13,7 +13,7 @@ use Rattle.cw_code.specs.declared.situation.Level.{Level}
 use Rattle.cw_code.specs.Table.{Effect, push, local, set, load, load_at, store, store_at, lift, join, jump, jump_zero, call, ret, drop_top, out, begin, end, fork, sync, done, tick, cancel}
 use Rattle.cw_code.specs.Rules.{Situation, effect_of, pops, when, operand_faults, faults_here, passed, jumps, never_passed, if_inside, natural, target_of, size_of, places, place_faults, is_border, is_torn}
 use Rattle.cw_code.specs.Nested.{Nested, IsGrown, parts_at, situation_at}
-use Rattle.cw_code.specs.Walked.{walked, Stands, level_of, level_jumped, IsWalked, AllLead}
+use Rattle.cw_code.specs.Walked.{walked, BreaksNothing, level_noted, level_jumped, IsWalked, AllLead}
 use Rattle.cw_code.proofs.Fold.{target_inside}
 use Rattle.cw_code.proofs.Sound.{when_not, not_false, nil_left, nil_right}
 use Rattle.cw_code.proofs.Seen.{situation_grown}
@@ -27,27 +27,27 @@ nothing_here c f p i e s few border torn last = rw (few, border, torn, last) ref
 
 -- ## The levels
 
-pub more_walked : (c : Code) (f : Func) (ns ms : Nested) (ls : List Level) (l : Level) (n : ℕ) → IsGrown ns ms → IsWalked c f ns ls n → l.nesting < length ns → situation_at ns l ≡ walked c f n → Stands c f (f.start + n) (situation_at ns l) → IsWalked c f ms (ls ++ l ∷ []) (n + 1)
+pub more_walked : (c : Code) (f : Func) (ns ms : Nested) (ls : List Level) (l : Level) (n : ℕ) → IsGrown ns ms → IsWalked c f ns ls n → l.nesting < length ns → situation_at ns l ≡ walked c f n → BreaksNothing c f (f.start + n) (situation_at ns l) → IsWalked c f ms (ls ++ l ∷ []) (n + 1)
 more_walked c f ns ms ls l n grown w low here stands = record {
   long = length-append ls (l ∷ []) ∙ ap (λ k. k + 1) w.long;
   made = λ k lt. by k lt (λ x. x.nesting < length ms) (λ old. omega (arith, w.made k old, grown.longer)) (omega (arith, low, grown.longer));
   expected = λ k lt. ⊎_elim (λ same. at_end k same) (λ o. ⊎_elim (λ old. before k old) (λ gt. absurd (omega arith)) o) (cases_order k n);
-  stand = λ k lt. ⊎_elim (λ same. subst (λ x. Stands c f (f.start + x) (walked c f x)) (sym same) (subst (Stands c f (f.start + n)) here stands)) (λ o. ⊎_elim (λ old. w.stand k old) (λ gt. absurd (omega arith)) o) (cases_order k n);
+  stand = λ k lt. ⊎_elim (λ same. subst (λ x. BreaksNothing c f (f.start + x) (walked c f x)) (sym same) (subst (BreaksNothing c f (f.start + n)) here stands)) (λ o. ⊎_elim (λ old. w.stand k old) (λ gt. absurd (omega arith)) o) (cases_order k n);
 }
   where
-    left : (k : ℕ) → k < n → level_of (ls ++ l ∷ []) k ≡ level_of ls k
+    left : (k : ℕ) → k < n → level_noted (ls ++ l ∷ []) k ≡ level_noted ls k
     left k lt = get_or_append_left ls (l ∷ []) _ k (omega (arith, w.long))
 
-    last : (k : ℕ) → k ≡ n → level_of (ls ++ l ∷ []) k ≡ l
-    last k same = ap (level_of (ls ++ l ∷ [])) (same ∙ sym w.long) ∙ get_or-append_seam ls l [] _
+    last : (k : ℕ) → k ≡ n → level_noted (ls ++ l ∷ []) k ≡ l
+    last k same = ap (level_noted (ls ++ l ∷ [])) (same ∙ sym w.long) ∙ get_or-append_seam ls l [] _
 
-    by : (k : ℕ) → k < n + 1 → (P : Level → Type 0) → (k < n → P (level_of ls k)) → P l → P (level_of (ls ++ l ∷ []) k)
+    by : (k : ℕ) → k < n + 1 → (P : Level → Type 0) → (k < n → P (level_noted ls k)) → P l → P (level_noted (ls ++ l ∷ []) k)
     by k lt P old new = ⊎_elim (λ same. subst P (sym (last k same)) new) (λ o. ⊎_elim (λ lower. subst P (sym (left k lower)) (old lower)) (λ gt. absurd (omega arith)) o) (cases_order k n)
 
-    before : (k : ℕ) → k < n → situation_at ms (level_of (ls ++ l ∷ []) k) ≡ walked c f k
-    before k lt = ap (situation_at ms) (left k lt) ∙ situation_grown ns ms (level_of ls k) grown (w.made k lt) ∙ w.expected k lt
+    before : (k : ℕ) → k < n → situation_at ms (level_noted (ls ++ l ∷ []) k) ≡ walked c f k
+    before k lt = ap (situation_at ms) (left k lt) ∙ situation_grown ns ms (level_noted ls k) grown (w.made k lt) ∙ w.expected k lt
 
-    at_end : (k : ℕ) → k ≡ n → situation_at ms (level_of (ls ++ l ∷ []) k) ≡ walked c f k
+    at_end : (k : ℕ) → k ≡ n → situation_at ms (level_noted (ls ++ l ∷ []) k) ≡ walked c f k
     at_end k same = ap (situation_at ms) (last k same) ∙ situation_grown ns ms l grown low ∙ here ∙ ap (walked c f) (sym same)
 
 -- ## Targets
@@ -123,7 +123,7 @@ module _ (c : Code) (f : Func) (ns : Nested) (ls : List Level) (w : IsWalked c f
     at_target q is =
         let inner = target_inside f i e q is in
         let low : q - f.start < size_of f = omega (arith, inner.0, inner.1) in
-        sym (w.expected (q - f.start) low) ∙ ap (situation_at ns) (lead k lt i there q is) ∙ jumped_passes c i e ns (level_of ls k) (has_target f i e q is)
+        sym (w.expected (q - f.start) low) ∙ ap (situation_at ns) (lead k lt i there q is) ∙ jumped_passes c i e ns (level_noted ls k) (has_target f i e q is)
         ∙ ap (passed c i e) (w.expected k lt ∙ sym is_expected)
 
     fits_here : Fits c f (expected c f) p i e

@@ -9,17 +9,17 @@ use Rattle.cw_code.specs.Rules.{Situation, effect_of, operand_faults, faults_her
 use Rattle.cw_code.specs.Nested.{Nested, situation_at}
 
 -- the situation behind an instruction, if one stands there
-abbrev pub behind : Code → Option Instr → Situation → Situation
-behind c None s = s
-behind c (Some i) s = onwards c i (effect_of i) s
+abbrev pub left_by : Code → Option Instr → Situation → Situation
+left_by c None s = s
+left_by c (Some i) s = onwards c i (effect_of i) s
 
 -- the situation that is expected at the function's place n
 abbrev pub walked : Code → Func → ℕ → Situation
 walked c f zero = at_start
-walked c f (suc n) = behind c (slice_get c.instrs (f.start + n)) (walked c f n)
+walked c f (suc n) = left_by c (slice_get c.instrs (f.start + n)) (walked c f n)
 
 -- an instruction stands at the place p, and breaks no rule there in the situation s, whatever its ways lead to
-pub record Stands (c : Code) (f : Func) (p : ℕ) (s : Situation) : Type 0 where
+pub record BreaksNothing (c : Code) (f : Func) (p : ℕ) (s : Situation) : Type 0 where
   pub instr : Instr
   pub there : slice_get c.instrs p ≡ Some instr
   pub operands : operand_faults c f p instr (effect_of instr) ≡ []
@@ -28,8 +28,8 @@ pub record Stands (c : Code) (f : Func) (p : ℕ) (s : Situation) : Type 0 where
 abbrev pub first_level : Level
 first_level = record { height = 0; nesting = 0 }
 
-abbrev pub level_of : List Level → ℕ → Level
-level_of ls n = slice_index_or ls n first_level
+abbrev pub level_noted : List Level → ℕ → Level
+level_noted ls n = slice_index_or ls n first_level
 
 -- the level at the target of a jump, from the level at the jump
 abbrev pub level_jumped : Option Effect → Level → Level
@@ -39,14 +39,14 @@ level_jumped e l = l
 -- the first n places have levels that a walk expects there, and their instructions break no rule of their own
 pub record IsWalked (c : Code) (f : Func) (ns : Nested) (ls : List Level) (n : ℕ) : Type 0 where
   pub long : length ls ≡ n
-  pub made : (k : ℕ) → k < n → (level_of ls k).nesting < length ns
-  pub expected : (k : ℕ) → k < n → situation_at ns (level_of ls k) ≡ walked c f k
-  pub stand : (k : ℕ) → k < n → Stands c f (f.start + k) (walked c f k)
+  pub made : (k : ℕ) → k < n → (level_noted ls k).nesting < length ns
+  pub expected : (k : ℕ) → k < n → situation_at ns (level_noted ls k) ≡ walked c f k
+  pub stand : (k : ℕ) → k < n → BreaksNothing c f (f.start + k) (walked c f k)
 
 -- the target of an instruction has the level that a jump from l brings there
-abbrev pub Leads : Func → List Level → Instr → Level → Type 0
-Leads f ls i l = (q : ℕ) → target_of f i (effect_of i) ≡ Some q → level_of ls (q - f.start) ≡ level_jumped (effect_of i) l
+abbrev pub LeadsWell : Func → List Level → Instr → Level → Type 0
+LeadsWell f ls i l = (q : ℕ) → target_of f i (effect_of i) ≡ Some q → level_noted ls (q - f.start) ≡ level_jumped (effect_of i) l
 
 -- so it is at the first n places of the function
 abbrev pub AllLead : Code → Func → List Level → ℕ → Type 0
-AllLead c f ls n = (k : ℕ) → k < n → (i : Instr) → slice_get c.instrs (f.start + k) ≡ Some i → Leads f ls i (level_of ls k)
+AllLead c f ls n = (k : ℕ) → k < n → (i : Instr) → slice_get c.instrs (f.start + k) ≡ Some i → LeadsWell f ls i (level_noted ls k)

@@ -1,7 +1,7 @@
 ghost use Rattle.std.specs.Prelude.{◌≡◌, ℕ, ◌+◌, ◌-◌, ◌<◌, ◌≤◌, true, [], ◌∷◌, length, slice_get, Some, IfOk, IfSome};
 ghost use Rattle.cw_code.specs.Rules.{pops, operand_faults, faults_here, onwards, effect_of, place_faults, places, size_of};
 ghost use Rattle.cw_code.specs.Nested.{situation_at, IsGrown};
-ghost use Rattle.cw_code.specs.Walked.{behind, walked, Stands, level_of, level_jumped, IsWalked, Leads, AllLead};
+ghost use Rattle.cw_code.specs.Walked.{left_by, walked, BreaksNothing, level_noted, level_jumped, IsWalked, LeadsWell, AllLead};
 
 use crate::effects::Effect;
 use crate::instruction::{Code, Func, Instr};
@@ -77,8 +77,8 @@ fn step(
     requires { (place < func.now.end) × (level.now.nesting < length nestings.old) }
     ensures grown { IsGrown nestings.old nestings.new }
     ensures made { IfOk result (λ r. IfSome r (λ t. t.nesting < length nestings.new)) }
-    ensures leaves { IfOk result (λ r. IfSome r (λ t. situation_at nestings.new t ≡ behind code.now (slice_get code.now.instrs place) (situation_at nestings.old level.now))) }
-    ensures stands { IfOk result (λ r. IfSome r (λ _. Stands code.now func.now place (situation_at nestings.old level.now))) }
+    ensures leaves { IfOk result (λ r. IfSome r (λ t. situation_at nestings.new t ≡ left_by code.now (slice_get code.now.instrs place) (situation_at nestings.old level.now))) }
+    ensures stands { IfOk result (λ r. IfSome r (λ _. BreaksNothing code.now func.now place (situation_at nestings.old level.now))) }
 {
     let instr = match code.instr(place) {
         None => return Ok(None),
@@ -144,7 +144,7 @@ fn is_same(a: Level, b: Level) -> bool
 #[tactic(auto, using(crate::proofs::Fold::target_inside))]
 fn leads(func: &Func, levels: &[Level], instr: Instr, level: Level) -> bool
     requires { length levels.now ≡ size_of func.now }
-    ensures { result ≡ true → Leads func.now levels.now instr level }
+    ensures { result ≡ true → LeadsWell func.now levels.now instr level }
 {
     let effect = table::effect_at(instr.op);
     match judging::target(func, instr, effect) {

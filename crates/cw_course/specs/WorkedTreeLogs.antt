@@ -13,7 +13,7 @@ use Rattle.cw_log.specs.declared.token.Stop.{Stop}
 use Rattle.cw_course.specs.Closings.{tree_of, conflicts_of, last_conflict, halt_in}
 use Rattle.cw_course.specs.TreeLogs.{number_in_tree, halt_in_tree, HangTogether, AreLogsOf}
 
--- cell c; fn main() { spawn { spawn { atomic { c = 1; cancel; } } out 7; } atomic { c = 2; } }
+-- language 2; cell c; fn main() { spawn { spawn { atomic { c = 1; cancel; } } out 7; } atomic { c = 2; } }
 
 -- The nodes in the order of time. Main's left strand forks as well, and its left strand writes and cancels. Main's right strand is refused.
 abbrev pub made_in_time : List Node

@@ -9,8 +9,8 @@ pub fn logs_make_one_tree()
     ensures closed { ClosingsGiveOneTree }
 {}
 
-/// Logs whose tree is numbered each hang from an earlier one, if each begins with a right strand and hangs from some log. The other way
-/// round this is so too.
+/// Law: logs whose tree is numbered each hang from an earlier one, if each begins with a right strand and hangs from some log. And if
+/// each hangs from an earlier one, each hangs from some log.
 pub fn logs_hang_earlier()
     ensures earlier { EarlierFollows }
     ensures together { EarlierAreTogether }

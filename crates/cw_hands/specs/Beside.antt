@@ -75,7 +75,7 @@ pub record IsLeftWaiting (s u : SharedMoment) (q : ℕ) : Type 0 where
   pub word : (b : ℕ) → IsTrue (is_pending s.machine.tree b && is_ancestor s.machine.tree b q) → slice_index s.words (gap_at s.columns s.machine.tree q) ≡ stamp_of s.machine.tree b
       → slice_index u.words (gap_at u.columns u.machine.tree q) ≡ slice_index s.words (gap_at s.columns s.machine.tree q)
 
--- a step leaves so each open node whose own strand it is not about: the places of strands that run and of those that wait, and all above these
+-- each open node stays so at a step that is not about its own strand: places of strands that run and of those that wait, and all above
 abbrev pub OpenPlacesStay : Type 0
 OpenPlacesStay = OfEachSharedStep (λ asked s u e. (q : ℕ) → IsTrue (is_open s.machine q) → is_about (at_any_time asked) s u e (strand_of s.machine.tree q) ≡ false → IsLeftWaiting s u q)
 

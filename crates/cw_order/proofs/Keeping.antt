@@ -7,7 +7,7 @@ use Rattle.std.specs.Vec.{vec_len}
 use Rattle.std.proofs.lemmas.List.Elements.{All-from_recursion, All-contains}
 use Rattle.cw_order.specs.declared.list.OrderList.TheInside.{Inside}
 use Rattle.cw_order.specs.declared.ring.Ring.{Ring}
-use Rattle.cw_order.specs.Order.{Order, AreLabels, position}
+use Rattle.cw_order.specs.Order.{Order, LabelsRise, position}
 use Rattle.cw_order.specs.declared.ring.TheConstants.{END}
 use Rattle.cw_order.specs.OrderList.{order_of_list, IsListInMemory}
 use Rattle.cw_order.specs.Links.{walk, AreLinked, AreApart}
@@ -46,7 +46,7 @@ pub kept_length : (a : Inside) → length (elements_of a.ring a.count) ≡ a.cou
 kept_length a = length-walk a.ring.next.items (get_or a.ring.next.items 0 0) a.count
 
 -- the head has the least label, and 0 is below those of the elements
-pub kept_labels : (a : Inside) → IsListInMemory a → AreLabels (order_of_list a)
+pub kept_labels : (a : Inside) → IsListInMemory a → LabelsRise (order_of_list a)
 kept_labels a kept = record { low = low; order = λ x y hx hy. labels-positions labels xs END x y kept.ring.rising.1 hx hy } where
   xs : List ℕ
   xs = elements_of a.ring a.count

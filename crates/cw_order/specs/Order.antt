@@ -31,10 +31,10 @@ abbrev pub position : List ℕ → ℕ → ℕ
 position xs e = position_or_len (λ x. x == e) xs
 
 -- labels rise in the order of the list, and none is 0
-pub record AreLabels (o : Order) : Type 0 where
+pub record LabelsRise (o : Order) : Type 0 where
   pub low : (a : ℕ) → Contains o.elements a → 0 < slice_index o.labels a
   pub order : (a b : ℕ) → Contains o.elements a → Contains o.elements b → (slice_index o.labels a < slice_index o.labels b) ↔ (position o.elements a < position o.elements b)
 
 -- each element has its label as before, if it was not given a new one
-abbrev pub KeepsLabels : Order → Order → Type 0
-KeepsLabels o p = (a : ℕ) → Contains o.elements a → Contains p.renumbered a ⊎ (slice_index p.labels a ≡ slice_index o.labels a)
+abbrev pub LeavesLabels : Order → Order → Type 0
+LeavesLabels o p = (a : ℕ) → Contains o.elements a → Contains p.renumbered a ⊎ (slice_index p.labels a ≡ slice_index o.labels a)

@@ -1,7 +1,7 @@
 ghost use Rattle.std.specs.Prelude.{◌≡◌, ◌+◌, ◌<◌, ◌≤◌, ◌↔◌, ◌⊎◌, ℕ, [], IsTrue, IsErr, IfOk, OnOk, OnErr, Contains, length, nat_eq, slice_index};
 ghost use Rattle.std.specs.List.{IsDistinct};
 ghost use Rattle.std.specs.Option.{ForSome};
-ghost use Rattle.cw_order.specs.Order.{placed_after, without, position, AreLabels, KeepsLabels};
+ghost use Rattle.cw_order.specs.Order.{placed_after, without, position, LabelsRise, LeavesLabels};
 ghost use Rattle.cw_order.specs.OrderList.{ArePlaces};
 ghost use Rattle.cw_order.specs.Ring.{elements_of, label_of};
 
@@ -67,7 +67,7 @@ impl OrderList {
     pub fn with_room(alloc: Global, n: u32) -> Result<OrderList, OutOfMemory>
         ensures empty { IfOk result (λ l. l.elements ≡ []) }
         ensures room { IfOk result (λ l. l.room ≡ n) }
-        ensures labels { IfOk result AreLabels }
+        ensures labels { IfOk result LabelsRise }
     {
         Ok(OrderList {
             ring: Ring::with_room(alloc, n)?,
@@ -93,8 +93,8 @@ impl OrderList {
         ensures distinct { IsDistinct nat_eq self.new.elements }
         ensures few { length self.new.elements ≤ self.new.room }
         ensures room { self.new.room ≡ self.old.room }
-        ensures labels { AreLabels self.new }
-        ensures kept { OnOk result (KeepsLabels self.old self.new) }
+        ensures labels { LabelsRise self.new }
+        ensures kept { OnOk result (LeavesLabels self.old self.new) }
         ensures full { IsErr result ↔ (length self.old.elements ≡ self.old.room) }
         ensures err { OnErr result (self.new ≡ self.old) }
     {
@@ -115,7 +115,7 @@ impl OrderList {
         ensures removed { self.new.elements ≡ without e self.old.elements }
         ensures distinct { IsDistinct nat_eq self.new.elements }
         ensures room { self.new.room ≡ self.old.room }
-        ensures labels { AreLabels self.new }
+        ensures labels { LabelsRise self.new }
         ensures same { self.new.labels ≡ self.old.labels }
         ensures renumbered { self.new.renumbered ≡ self.old.renumbered }
     {

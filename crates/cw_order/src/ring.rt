@@ -19,7 +19,8 @@ struct Run {
 }
 
 /// The head and the elements of a list, as a ring of links with labels that rise from the head on. Places outside the ring are
-/// linked by `next` alone. `renumbered` has the places that the last call for a label gave new labels. Places are made as they are needed, so memory that no element uses is not touched.
+/// linked by `next` alone. `renumbered` has the places that the last call for a label gave new labels. Places are made as they are
+/// needed, so memory that no element uses is not touched.
 #[derive(Drop)]
 pub(crate) struct Ring {
     room: u32,

@@ -38,7 +38,7 @@ module _ (t : List Node) (w : IsTree t) where
       let touched = (and_parts (touches t c v) (is_live t v) g.1).0 in
       all_visited t w.rooted w.some (children t) (by_number t) v (leaf_there t v (access_leaf t c v touched))
 
-  -- of two numbers in the order neither of which stands before the other, there is one
+  -- two numbers in the order are one if neither stands before the other
   one_second : (x y : ℕ) → In x (english t) → stands_before (english t) x y ≡ false → stands_before (english t) y x ≡ false → x ≡ y
   one_second x y i e f = by (cases_lt (position (english t) x) (position (english t) y)) (cases_lt (position (english t) y) (position (english t) x)) where
     by : (position (english t) x < position (english t) y) ⊎ (position (english t) y ≤ position (english t) x)

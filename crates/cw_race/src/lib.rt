@@ -23,8 +23,7 @@ pub fn kept_is_enough()
     ensures rivals { RivalsRace }
 {}
 
-/// Law: the list of the races of a tree is one up to the first accesses: any two such lists name the same cells, each with the same second
-/// access.
+/// Law: any two lists of the races of a tree name the same cells, each with the same second access.
 pub fn races_agree()
     ensures { RacesAgree }
 {}

@@ -32,12 +32,12 @@ abbrev pub is_cancel_kind : Kind → Bool
 is_cancel_kind (Cancel back) = true
 is_cancel_kind _ = false
 
-abbrev pub is_cancel : List Node → ℕ → Bool
-is_cancel = is_node (λ x. is_cancel_kind x.kind)
+abbrev pub is_cancel_leaf : List Node → ℕ → Bool
+is_cancel_leaf = is_node (λ x. is_cancel_kind x.kind)
 
 -- a child of node n is a cancel; one in a block within n is not a child of n
 abbrev pub has_cancel : List Node → ℕ → Bool
-has_cancel t n = list_any (is_cancel t) (children t n)
+has_cancel t n = list_any (is_cancel_leaf t) (children t n)
 
 -- a committed block with no aborted block above it, and with a cancel of its own
 abbrev pub stands_cancelled : List Node → ℕ → Bool

@@ -2,7 +2,7 @@ ghost use Rattle.std.specs.Prelude.{◌≡◌, ◌<◌, length, map, IfOk};
 ghost use Rattle.cw_tree.specs.Accesses.{is_live};
 ghost use Rattle.cw_tree.specs.ForkCounts.{one_if};
 ghost use Rattle.cw_tree.specs.Nodes.{all_nodes, below, is_committed, is_strand};
-ghost use Rattle.cw_report.specs.Report.{count_nodes, has_cancel, is_cancel, is_undone, stands_cancelled, stands_committed};
+ghost use Rattle.cw_report.specs.Report.{count_nodes, has_cancel, is_cancel_leaf, is_undone, stands_cancelled, stands_committed};
 
 use cw_base::OutOfMemory;
 use cw_tree::{BlockState, Kind, Tree};
@@ -81,14 +81,14 @@ fn nodes_with_cancels(alloc: Global, tree: &Tree) -> Result<Vec<bool>, OutOfMemo
     let mut cancels = vec![in alloc; false; count]?;
     for n in 1..count as u32 {
         let parent = tree.parent(n) as usize;
-        cancels[parent] |= is_cancel(tree, n);
+        cancels[parent] |= is_cancel_leaf(tree, n);
     }
     Ok(cancels)
 }
 
-fn is_cancel(tree: &Tree, n: u32) -> bool
+fn is_cancel_leaf(tree: &Tree, n: u32) -> bool
     requires { n < length tree.now }
-    ensures { result ≡ is_cancel tree.now n }
+    ensures { result ≡ is_cancel_leaf tree.now n }
 {
     matches!(tree.node(n).kind, Kind::Cancel { .. })
 }

@@ -12,7 +12,7 @@ use Rattle.cw_trace.specs.Columns.{ColumnTable, used, owner, gap, trace, trace_i
 use Rattle.cw_trace.specs.Labels.{full_row}
 use Rattle.cw_trace.specs.Listing.{Listing, Grows, KeepsLabels}
 use Rattle.cw_trace.specs.Tier.{AreSound}
-use Rattle.cw_trace.specs.Touched.{AreTouched}
+use Rattle.cw_trace.specs.Touched.{TouchedAreListed}
 use Rattle.cw_trace.specs.Traces.{Traces}
 use Rattle.cw_trace.proofs.Marks.Counts.{SameLengths, half_opening, half_closing}
 use Rattle.cw_trace.proofs.Marks.Edits.{length_parts, parts_at}
@@ -65,9 +65,9 @@ same_row c d old new i o g t opening closing =
     ap (λ n. row_from n (gap d i) (trace d i) x y) o ∙ (ap (λ n. row_from (owner c i) n (trace d i) x y) g ∙ (ap (λ n. row_from (owner c i) (gap c i) n x y) t
     ∙ same_labels (owner c i) (gap c i) (trace c i) x y (slice_index old (opening_mark i)) (slice_index old (closing_mark i)) opening closing))
 
--- what is told of the columns that a call made is told of the tier
+-- what holds of the columns that a call made holds of the tier
 pub touched_as : (s a b : Traces) (d : ColumnTable) → a ≡ s → b.columns ≡ d
-    → ((i : ℕ) → i < used d → (has b.touched i ≡ true) ⊎ ((i < used a.columns) × (full_row d b.labels i ≡ full_row a.columns a.labels i))) → AreTouched s b
+    → ((i : ℕ) → i < used d → (has b.touched i ≡ true) ⊎ ((i < used a.columns) × (full_row d b.labels i ≡ full_row a.columns a.labels i))) → TouchedAreListed s b
 touched_as s a b d v e h = λ i low.
     subst (λ x. (has b.touched i ≡ true) ⊎ ((i < used x.columns) × (full_row b.columns b.labels i ≡ full_row x.columns x.labels i))) v
     (subst (λ y. (has b.touched i ≡ true) ⊎ ((i < used a.columns) × (full_row y b.labels i ≡ full_row a.columns a.labels i))) (sym e) (h i (subst (λ y. i < used y) e low)))

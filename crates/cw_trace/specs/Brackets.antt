@@ -1,7 +1,7 @@
 -- The brackets of traces in an order list: each element of the list has a mark, and each mark its element.
 use Rattle.std.specs.Prelude.{◌≡◌, ℕ, ◌≤◌, ◌<◌, true, length, map, slice_index, nat_eq, vec_capacity}
 use Rattle.std.specs.List.{IsDistinct}
-use Rattle.cw_order.specs.Order.{AreLabels}
+use Rattle.cw_order.specs.Order.{LabelsRise}
 use Rattle.cw_tree.specs.Walks.{has}
 use Rattle.cw_trace.specs.Marks.{Marks}
 use Rattle.cw_trace.specs.declared.brackets.Brackets.TheInside.{Inside}
@@ -15,7 +15,7 @@ marks_of a = record { marks = map (λ e. slice_index a.marks.items e) a.order.el
 pub record AreBracketsInMemory (a : Inside) : Type 0 where
   pub elements_room : a.order.room ≤ vec_capacity a.elements
   pub marks_room : a.order.room < vec_capacity a.marks
-  pub labelled : AreLabels a.order
+  pub labelled : LabelsRise a.order
   pub distinct : IsDistinct nat_eq a.order.elements
   pub low : (e : ℕ) → has a.order.elements e ≡ true → e < length a.marks.items
   pub mark_low : (e : ℕ) → has a.order.elements e ≡ true → bracket_of a e < length a.elements.items

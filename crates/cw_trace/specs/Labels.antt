@@ -13,8 +13,8 @@ abbrev pub AreLabels : ColumnTable → List ℕ → Type 0
 AreLabels c labels = AreInOrder c.brackets labels
 
 -- the label of a mark of trace t, and 0 where column t names none
-abbrev pub label_of : ColumnTable → (labels : List ℕ) → (t mark : ℕ) → ℕ
-label_of c labels t m = if is_trace c t then slice_index labels m else 0
+abbrev pub bracket_label : ColumnTable → (labels : List ℕ) → (t mark : ℕ) → ℕ
+bracket_label c labels t m = if is_trace c t then slice_index labels m else 0
 
 abbrev pub full_row : ColumnTable → (labels : List ℕ) → ℕ → Row
 full_row c labels i = record {
@@ -23,6 +23,6 @@ full_row c labels i = record {
   head = head c i;
   lead = lead c i;
   up = up c i;
-  opening = label_of c labels i (opening_mark i);
-  closing = label_of c labels i (closing_mark i);
+  opening = bracket_label c labels i (opening_mark i);
+  closing = bracket_label c labels i (closing_mark i);
 }

@@ -3,7 +3,7 @@ ghost use Rattle.cw_trace.specs.Columns as columns;
 ghost use Rattle.std.specs.List.{IsDistinct};
 ghost use Rattle.cw_tree.specs.Walks.{has};
 ghost use Rattle.cw_trace.specs.Labels.{AreLabels, full_row};
-ghost use Rattle.cw_trace.specs.Touched.{AreTouched};
+ghost use Rattle.cw_trace.specs.Touched.{TouchedAreListed};
 
 mod reader;
 
@@ -264,7 +264,8 @@ impl Tier {
         }
     }
 
-    /// Returns the columns that the last fork, split or merge touched: those that it took into use, and those whose row it changed.
+    /// Returns distinct columns in use: those that the last fork, split or merge took into use, each other one whose row it changed,
+    /// and perhaps more.
     pub fn touched(&self) -> &[u32]
         ensures value { result.now ≡ self.now.touched }
         ensures distinct { IsDistinct nat_eq result.now }
@@ -337,7 +338,7 @@ impl Tier {
         ensures inline { OnErr result (self.old.columns.room < columns.used self.old.columns + 2) }
         ensures err { OnErr result (self.new ≡ self.old) }
         ensures labels { AreLabels self.new.columns self.new.labels }
-        ensures touched { OnOk result (AreTouched self.old self.new) }
+        ensures touched { OnOk result (TouchedAreListed self.old self.new) }
         ensures keeps { ForkKeeps word parent self.old.columns self.new.columns }
     {
         self.fork_columns(word, parent)
@@ -354,7 +355,7 @@ impl Tier {
             (λ e. columns.before_split self.old.columns fork ≡ Some e.before) }
         ensures err { OnErr result (self.new ≡ self.old) }
         ensures labels { AreLabels self.new.columns self.new.labels }
-        ensures touched { OnOk result (AreTouched self.old self.new) }
+        ensures touched { OnOk result (TouchedAreListed self.old self.new) }
         ensures keeps { OnOk result (SplitKeeps fork self.old.columns self.new.columns) }
         ensures allowed { OnOk result (NoneBars fork self.old.columns) }
         ensures barred { IfErr result (λ e. NextBars fork e.before self.old.columns) }
@@ -369,7 +370,7 @@ impl Tier {
         requires split { columns.is_trace self.old.columns fork ≡ true }
         ensures merged { self.new.columns ≡ columns.merged fork self.old.columns }
         ensures labels { AreLabels self.new.columns self.new.labels }
-        ensures touched { AreTouched self.old self.new }
+        ensures touched { TouchedAreListed self.old self.new }
         ensures keeps { MergeKeeps fork self.old.columns self.new.columns }
     {
         self.merge_columns(fork);
@@ -386,7 +387,7 @@ impl Tier {
         ensures inline { OnErr result (self.old.columns.room < columns.used self.old.columns + 2) }
         ensures err { OnErr result (self.new ≡ self.old) }
         ensures labels { AreLabels self.new.columns self.new.labels }
-        ensures touched { OnOk result (AreTouched self.old self.new) }
+        ensures touched { OnOk result (TouchedAreListed self.old self.new) }
     {
         let used = self.owners.len();
         if (self.room as usize) < used + 2 {
@@ -420,7 +421,7 @@ impl Tier {
             (λ e. columns.before_split self.old.columns fork ≡ Some e.before) }
         ensures err { OnErr result (self.new ≡ self.old) }
         ensures labels { AreLabels self.new.columns self.new.labels }
-        ensures touched { OnOk result (AreTouched self.old self.new) }
+        ensures touched { OnOk result (TouchedAreListed self.old self.new) }
     {
         if let Some(before) = self.before_split(fork) {
             return Err(Early { before });
@@ -460,7 +461,7 @@ impl Tier {
         requires split { columns.is_trace self.old.columns fork ≡ true }
         ensures merged { self.new.columns ≡ columns.merged fork self.old.columns }
         ensures labels { AreLabels self.new.columns self.new.labels }
-        ensures touched { AreTouched self.old self.new }
+        ensures touched { TouchedAreListed self.old self.new }
     {
         let trace = self.owners[self.parents[fork as usize] as usize];
         let row = row_of(self.traces.as_slice(), trace);

@@ -15,6 +15,6 @@ abbrev pub child_before : List Node → ℕ → Option ℕ
 child_before t c = last_below (is_child t (parent_of t c)) c
 
 -- the last child of each node of tree t, and the child before each
-pub record AreLinks (t : List Node) (lasts befores : List (Option ℕ)) : Type 0 where
+pub record AreFamilyLinks (t : List Node) (lasts befores : List (Option ℕ)) : Type 0 where
   pub last : lasts ≡ map (last_child t) (all_nodes t)
   pub before : befores ≡ map (child_before t) (all_nodes t)

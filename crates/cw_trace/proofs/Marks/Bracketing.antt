@@ -6,7 +6,7 @@ use Rattle.std.specs.Option.{ForSome, option_map}
 use Rattle.std.specs.Vec.{vec_capacity}
 use Rattle.std.proofs.lemmas.List.{get_or_read, get_or-map, get_or-set_same, get_or-set_other, length-set}
 use Rattle.std.proofs.lemmas.Bool.Decides.{Decides-ltb}
-use Rattle.cw_order.specs.Order.{AreLabels, KeepsLabels, placed_after, without, position}
+use Rattle.cw_order.specs.Order.{LabelsRise, LeavesLabels, placed_after, without, position}
 use Rattle.cw_tree.specs.Walks.{has}
 use Rattle.cw_trace.specs.declared.brackets.Brackets.TheInside.{Inside}
 use Rattle.cw_trace.specs.Columns.{stands_before}
@@ -98,7 +98,7 @@ reached a d k order elements marks more_elements more_marks elements_as marks_as
   kept = record {
     elements_room = omega (arith, k.elements_room, ap (λ o. o.room) order);
     marks_room = omega (arith, k.marks_room, ap (λ o. o.room) order);
-    labelled = subst AreLabels (sym order) k.labelled;
+    labelled = subst LabelsRise (sym order) k.labelled;
     distinct = subst (λ o. IsDistinct nat_eq o.elements) (sym order) k.distinct;
     low = λ e h. (let l = k.low e (old e h) in omega (arith, more_marks));
     mark_low = λ e h. (let l = k.mark_low e (old e h) in omega (arith, marks e, more_elements));
@@ -109,7 +109,7 @@ reached a d k order elements marks more_elements more_marks elements_as marks_as
 pub record HasInserted (a d : Inside) (at : Option ℕ) (m : ℕ) : Type 0 where
   pub kept : AreBracketsInMemory d
   pub marks : (marks_of d).marks ≡ with_mark at m (marks_of a).marks
-  pub labels : ForSome at (λ b. has (marks_of a).marks b ≡ true) → KeepsLabels a.order d.order → (b : ℕ) → has (marks_of a).marks b ≡ true
+  pub labels : ForSome at (λ b. has (marks_of a).marks b ≡ true) → LeavesLabels a.order d.order → (b : ℕ) → has (marks_of a).marks b ≡ true
       → (has (marks_of d).renumbered b ≡ true) ⊎ (slice_index (marks_of d).labels b ≡ slice_index (marks_of a).labels b)
 
 contains_has : (xs : List ℕ) (y : ℕ) → Contains xs y → has xs y ≡ true
@@ -123,7 +123,7 @@ with_mark_old (Some a) mark xs some m h = has_place a (mark ∷ []) xs m (some a
 
 -- a mark that was there has its label as before, or is renumbered
 labels_kept : (a d : Inside) (place : Option ℕ) (e mark : ℕ) → AreBracketsInMemory a → AreBracketsInMemory d → d.order.elements ≡ placed_after place e a.order.elements → bracket_of d e ≡ mark
-    → ((x : ℕ) → has a.order.elements x ≡ true → bracket_of d x ≡ bracket_of a x) → has (marks_of a).marks mark ≡ false → KeepsLabels a.order d.order
+    → ((x : ℕ) → has a.order.elements x ≡ true → bracket_of d x ≡ bracket_of a x) → has (marks_of a).marks mark ≡ false → LeavesLabels a.order d.order
     → (m : ℕ) → has (marks_of a).marks m ≡ true → has (marks_of d).marks m ≡ true → (has (marks_of d).renumbered m ≡ true) ⊎ (slice_index (marks_of d).labels m ≡ slice_index (marks_of a).labels m)
 labels_kept a d place e mark k l placed fresh old lacks kept m h g =
     let y = element_of d l m g in
@@ -141,7 +141,7 @@ labels_kept a d place e mark k l placed fresh old lacks kept m h g =
             | inr z ↦ inr (label_is d l m y w ∙ (z ∙ sym (label_is a k m y v)))
           ]
 
-pub inserted : (a d : Inside) (at place : Option ℕ) (e m : ℕ) → AreBracketsInMemory a → AreLabels d.order → at ≡ option_map (bracket_of a) place → ((x : ℕ) → place ≡ Some x → has a.order.elements x ≡ true)
+pub inserted : (a d : Inside) (at place : Option ℕ) (e m : ℕ) → AreBracketsInMemory a → LabelsRise d.order → at ≡ option_map (bracket_of a) place → ((x : ℕ) → place ≡ Some x → has a.order.elements x ≡ true)
     → (Contains a.order.elements e → ⊥) → e < length a.marks.items → d.order.elements ≡ placed_after place e a.order.elements → IsDistinct nat_eq d.order.elements → d.order.room ≡ a.order.room
     → d.elements.items ≡ slice_set a.elements.items m e → d.marks.items ≡ slice_set a.marks.items e m → vec_capacity d.elements ≡ vec_capacity a.elements → vec_capacity d.marks ≡ vec_capacity a.marks → m < length a.elements.items → has (marks_of a).marks m ≡ false → HasInserted a d at m
 inserted a d at place e m k labelled same_at there fresh high placed distinct room elements marks elements_as marks_as low lacks = record {
@@ -203,7 +203,7 @@ pub record HasRemoved (a d : Inside) (m : ℕ) : Type 0 where
   pub kept : AreBracketsInMemory d
   pub marks : (marks_of d).marks ≡ filter (λ b. not (nat_eq b m)) (marks_of a).marks
 
-pub removed : (a d : Inside) (e m : ℕ) → AreBracketsInMemory a → AreLabels d.order → Marked a m e → d.order.elements ≡ without e a.order.elements → IsDistinct nat_eq d.order.elements → d.order.room ≡ a.order.room → d.elements.items ≡ a.elements.items → d.marks.items ≡ a.marks.items → vec_capacity d.elements ≡ vec_capacity a.elements → vec_capacity d.marks ≡ vec_capacity a.marks → HasRemoved a d m
+pub removed : (a d : Inside) (e m : ℕ) → AreBracketsInMemory a → LabelsRise d.order → Marked a m e → d.order.elements ≡ without e a.order.elements → IsDistinct nat_eq d.order.elements → d.order.room ≡ a.order.room → d.elements.items ≡ a.elements.items → d.marks.items ≡ a.marks.items → vec_capacity d.elements ≡ vec_capacity a.elements → vec_capacity d.marks ≡ vec_capacity a.marks → HasRemoved a d m
 removed a d e m k labelled w out distinct room elements marks elements_as marks_as = record {
   kept = record {
     elements_room = omega (arith, k.elements_room, room, elements_as);

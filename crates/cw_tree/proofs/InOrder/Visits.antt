@@ -124,7 +124,7 @@ module _ (t : List Node) (r : IsRooted t) (order : ℕ → List ℕ) (o : Orders
               inr (ahead_piece (walk_by order k) u v b.child (order n) (child_visited n b.child m hm b.some b.parent b.over) (from_above k b.child (omega (arith, b.parent)) b.over)))
         ]
 
-  -- two nodes beneath two children of m, of which the first is visited first
+  -- two nodes beneath two children of m, the one beneath the child that is visited first
   pub walk_ahead : (m c d u v : ℕ) → u < length t → v < length t → parent_of t c ≡ m → parent_of t d ≡ m → 0 < c → 0 < d → Ahead c d (order m) → is_ancestor t c u ≡ true → is_ancestor t d v ≡ true → is_ancestor t 0 m ≡ true
       → Ahead u v (walk_by order (length t) 0)
   walk_ahead m c d u v hu hv pc pd sc sd first ou ov top =

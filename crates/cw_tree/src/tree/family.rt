@@ -17,13 +17,13 @@ pub struct Family<'t> {
 impl<'t> Model for Family<'t> {
     ghost use Rattle.std.specs.Prelude.{List};
     ghost use Rattle.cw_tree.specs.declared.node.Node.{Node};
-    ghost use Rattle.cw_tree.specs.Links.{AreLinks};
+    ghost use Rattle.cw_tree.specs.Links.{AreFamilyLinks};
 
     ghost Value = { List Node };
 
     ghost view = { λ f. f.tree.now };
 
-    ghost invariant = { λ f. AreLinks f.tree.now f.last.items f.before.items };
+    ghost invariant = { λ f. AreFamilyLinks f.tree.now f.last.items f.before.items };
 }
 
 impl<'t> Family<'t> {
@@ -50,7 +50,8 @@ impl<'t> Family<'t> {
         self.tree
     }
 
-    /// Pushes a node's children on a stack, the first one last. Takes a step for each child.
+    /// Pushes a node's children on a stack, the first one last. Takes a step for each child. Without memory the stack may have some of
+    /// the children.
     pub fn push_children(&self, n: u32, stack: &mut Vec<u32>) -> Result<(), OutOfMemory>
         requires { n < length self.now }
         ensures { OnOk result (stack.new.items ≡ stack.old.items ++ reverse (children self.now n)) }

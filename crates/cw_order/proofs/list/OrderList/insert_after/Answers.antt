@@ -6,7 +6,7 @@ use Rattle.cw_order.specs.declared.list.OrderList.TheInside.{Inside}
 use Rattle.cw_order.specs.declared.list.Free.{Free}
 use Rattle.cw_order.specs.declared.ring.Ring.{Ring}
 use Rattle.std.proofs.lemmas.List.{get_or-set_other}
-use Rattle.cw_order.specs.Order.{placed_after, AreLabels}
+use Rattle.cw_order.specs.Order.{placed_after, LabelsRise}
 use Rattle.cw_order.specs.Ring.{elements_of, path}
 use Rattle.cw_order.proofs.Inserting.{HasInserted, inserted}
 use Rattle.cw_order.proofs.Keeping.{kept_below, kept_distinct, kept_labels, kept_length, kept_new, place_of, path_within}
@@ -115,7 +115,7 @@ returns-clause-few c =
     omega (arith, new, (is_inserted c).kept.few, (is_inserted c).kept.within)
 
 pub returns-then-is_full-clause-labels : goal.returns-then-is_full-clause-labels
-returns-then-is_full-clause-labels c = subst AreLabels c.self.view_is (kept_labels c.self.inside c.self.invariant)
+returns-then-is_full-clause-labels c = subst LabelsRise c.self.view_is (kept_labels c.self.inside c.self.invariant)
 
 pub returns-clause-labels : goal.returns-clause-labels
 returns-clause-labels c = kept_labels _ (is_inserted c).kept
