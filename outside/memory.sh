@@ -131,10 +131,8 @@ two='cell c; fn main() { atomic { spawn { atomic { c = c + 1; } } atomic { c = c
 
 # sweep_short: what the gate runs
 sweep_short() {
-  # Without a fork: `recycle` of cw_pool drops an empty box if its list cannot grow, and the run goes on.
-  printf 'cell c; fn main() { atomic { c = c + 1; atomic { c = c + 1; } } out c; }' > source
-  sweep 'blocks without a fork, 2 workers' 1 0 $'out 2\nc = 2\nend\n' '' run --workers 2
   printf '%s' "$two" > source
+  sweep 'two blocks in one, 2 workers' 1 0 $'c = 2\nend\n' '' run --workers 2
   sweep 'two blocks in one, simulated' 0 0 $'c = 2\nend\n' '' sim --workers 2
 }
 

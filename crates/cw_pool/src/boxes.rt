@@ -1,7 +1,8 @@
 //! Boxes of tasks. Deques, lists and frames hold tasks in boxes. A running task keeps the box in which it came, so that it can be
 //! left anywhere without taking memory.
-ghost use Rattle.std.specs.Prelude.{◌<◌, OnOk};
+ghost use Rattle.std.specs.Prelude.{◌≡◌, ◌<◌, ◌≤◌, MatchOption, OnOk};
 ghost use Rattle.std.specs.Vec.{vec_len, vec_capacity};
+ghost use Rattle.cw_pool.specs.Waiting.{with_spare, NoneWaits, Waited, Waits};
 
 use crate::{RunName, Running};
 use cw_base::OutOfMemory;
@@ -58,12 +59,13 @@ pub(crate) fn pack<B: SharedBoard, J: RunName>(task: Task<B, J>) -> TaskBox<B, J
 }
 
 /// The boxes of a worker: `deck` holds its own end of its deque, `kept` the tasks that the deque could not take, newest last, and
-/// `spare` empty boxes.
+/// `spare` empty boxes, for which it has room from the start.
 #[derive(Drop)]
 pub(crate) struct Boxes<B: SharedBoard, J: RunName> {
     deck: Deck<TaskBox<B, J>>,
     kept: Vec<TaskBox<B, J>>,
     spare: Vec<TaskBox<B, J>>,
+    ghost room_for_spare: { 64 ≤ vec_capacity spare },
 }
 
 impl<B: SharedBoard, J: RunName> Boxes<B, J> {
@@ -71,7 +73,7 @@ impl<B: SharedBoard, J: RunName> Boxes<B, J> {
         Ok(Boxes {
             deck: Deck::new(alloc)?,
             kept: Vec::new(alloc),
-            spare: Vec::new(alloc),
+            spare: Vec::with_capacity(alloc, SPARE)?,
         })
     }
 
@@ -81,7 +83,8 @@ impl<B: SharedBoard, J: RunName> Boxes<B, J> {
 
     /// Returns an empty box, and makes room for it in the list `kept`.
     pub(crate) fn room(&mut self, alloc: Global) -> Result<TaskBox<B, J>, OutOfMemory>
-        ensures { OnOk result (vec_len self.new.kept < vec_capacity self.new.kept) }
+        ensures room { OnOk result (vec_len self.new.kept < vec_capacity self.new.kept) }
+        ensures waiting { (self.new.deck ≡ self.old.deck) × (self.new.kept.items ≡ self.old.kept.items) }
     {
         self.kept.reserve(1)?;
         match self.spare.pop() {
@@ -94,8 +97,17 @@ impl<B: SharedBoard, J: RunName> Boxes<B, J> {
     /// while it has tasks, later ones go there, too.
     pub(crate) fn push(&mut self, task: Task<B, J>)
         requires { vec_len self.old.kept < vec_capacity self.old.kept }
+        ensures waits { (full : _) × Waits full self.old.deck self.new.deck self.old.kept.items self.new.kept.items }
+        ensures spare { self.new.spare.items ≡ self.old.spare.items }
     {
-        let full = pack(task);
+        self.push_box(pack(task));
+    }
+
+    fn push_box(&mut self, full: TaskBox<B, J>)
+        requires { vec_len self.old.kept < vec_capacity self.old.kept }
+        ensures waits { Waits full self.old.deck self.new.deck self.old.kept.items self.new.kept.items }
+        ensures spare { self.new.spare.items ≡ self.old.spare.items }
+    {
         if !self.kept.is_empty() {
             self.kept.push_reserved(full);
             return;
@@ -108,15 +120,26 @@ impl<B: SharedBoard, J: RunName> Boxes<B, J> {
 
     /// Removes and returns the newest task that waits here.
     pub(crate) fn pop(&mut self) -> Option<Task<B, J>> {
+        take_up(self.pop_box()?)
+    }
+
+    fn pop_box(&mut self) -> Option<TaskBox<B, J>>
+        ensures { MatchOption result
+            (NoneWaits self.old.deck self.new.deck self.old.kept.items self.new.kept.items)
+            (λ full. Waited full self.old.deck self.new.deck self.old.kept.items self.new.kept.items) }
+    {
         match self.kept.pop() {
-            Some(full) => take_up(full),
-            None => take_up(self.deck.pop()?),
+            Some(full) => Some(full),
+            None => self.deck.pop(),
         }
     }
 
-    /// Keeps an empty box for later use.
-    pub(crate) fn recycle(&mut self, empty: TaskBox<B, J>) {
-        if self.spare.len() < SPARE && self.spare.reserve(1).is_ok() {
+    /// Keeps an empty box for later use, unless there are enough. Takes no memory.
+    pub(crate) fn recycle(&mut self, empty: TaskBox<B, J>)
+        ensures spare { self.new.spare.items ≡ with_spare 64 empty self.old.spare.items }
+        ensures waiting { (self.new.deck ≡ self.old.deck) × (self.new.kept.items ≡ self.old.kept.items) }
+    {
+        if self.spare.len() < SPARE {
             self.spare.push_reserved(empty);
         }
     }
