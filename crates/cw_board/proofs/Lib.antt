@@ -7,3 +7,4 @@ pub mod Accessing
 pub mod Reading
 pub mod Refusing
 pub mod Rolls
+pub mod Cuts

@@ -10,7 +10,6 @@ use Rattle.cw_log.specs.declared.board.Access.TheVariants as access
 use Rattle.cw_log.specs.declared.log.Above.{Above}
 use Rattle.cw_log.specs.declared.token.Token.{Token}
 use Rattle.cw_log.specs.Answers.{IsAround}
-use Rattle.cw_log.specs.Tokens.{refused}
 use Rattle.cw_steps.specs.declared.table.StrandToken.{StrandToken}
 use Rattle.cw_steps.specs.Stands.{token_of}
 use Rattle.cw_steps.specs.Tracks.{begins, track_of}

@@ -1,11 +1,9 @@
-//! Rolls blocks back: undoes each access beneath a block in its cell, with the cell's lock held, and then closes the block. All
-//! that a log got since its innermost pending block was begun lies beneath that block, since the strand has stood in it from then
-//! on. So do all logs from the first one on that was joined from a fork there. A walk in the order of the logs therefore needs no
-//! memory.
-ghost use Rattle.std.specs.Prelude.{◌≡◌, ◌<◌, ℕ, filter, nat_lt, drop, Contains, IfSome};
+//! Rolls blocks back: brings each cell home once, cut before the first entry that is an access beneath the block, and then closes the
+//! block. The cells come in the order of their numbers, so that no memory is needed to know which were brought home.
+ghost use Rattle.std.specs.Prelude.{◌≡◌, ◌<◌, ℕ};
 ghost use Rattle.cw_tree.specs.declared.node.BlockState.TheVariants.{Aborted};
-ghost use Rattle.cw_tree.specs.AccessStacks.{stamps};
 ghost use Rattle.cw_log.specs.Tokens.{ended, GoesBack, HasBlock};
+ghost use Rattle.cw_steps.specs.Beneath.{entries_before};
 ghost use Rattle.cw_steps.specs.declared.draw.Aim.TheVariants as aims;
 ghost use Rattle.cw_steps.specs.Homes.{LeavesCell};
 ghost use Rattle.cw_steps.specs.Leaving.{HasReturned};
@@ -16,29 +14,21 @@ ghost use Rattle.cw_steps.specs.Views.{IsLowCell};
 ghost use Rattle.cw_board.specs.Boards.{budget_of, cells_in, IsHidden, IsOf};
 
 use crate::Board;
-use cw_log::{Log, Logs};
 use cw_stack::Cell;
 use cw_steps::{Aim, StrandToken};
-use cw_tree::{Kind, Node};
 use std::sync::Wait;
 
-/// Returns the cell that a node touched and its stamp, if the node is an access.
-fn access_of(node: &Node) -> Option<(u32, u64)> {
-    match node.kind {
-        Kind::Read { cell, .. } | Kind::Write { cell, .. } => Some((cell, node.stamp)),
-        _ => None,
-    }
-}
-
-/// Takes an access out of its cell, with all that came after it there. It may already be gone, taken out with an earlier one. That
-/// it is there otherwise is not proved.
-fn cut(cell: &mut Cell, stamp: u64)
-    ensures cut { Contains (stamps (drop cell.old.cleaned cell.old.entries)) stamp → cell.new.entries ≡ filter (λ e. nat_lt e.mark.stamp stamp) cell.old.entries }
+/// Leaves a cell with the entries before the first one that is an access beneath the token's place. Entries that were cleaned stay;
+/// that there are none is not proved.
+fn cut(cell: &mut Cell, number: u32, token: &StrandToken)
+    ensures cut { cell.old.cleaned ≡ 0 → cell.new.entries ≡ entries_before (token_of token.now) number cell.old.entries }
     ensures low { (most : ℕ) → IsLowCell most (slot.Cell cell.old) → IsLowCell most (slot.Cell cell.new) }
     ensures left { LeavesCell aims.Undo cell.old cell.new }
 {
-    if cell.may_roll(stamp) {
-        cell.roll(stamp);
+    // A hint to the prover, without effect: stamps rise.
+    let _ = cell.journal();
+    if let Some(first) = token.first_entry(number, cell) {
+        cell.roll(first);
     }
 }
 
@@ -60,7 +50,8 @@ impl Board {
         }
     }
 
-    /// Undoes all accesses beneath the block in the token's place.
+    /// Undoes all accesses beneath the block in the token's place, one cell after another. A number for which there is no cell is left
+    /// out: no rule of the table says yet that the cells of a log exist.
     fn undo<R: Wait>(&self, rt: &R, token: &mut StrandToken)
         requires { IsOf self.now token.old }
         ensures of { IsOf self.now token.new }
@@ -68,89 +59,19 @@ impl Board {
         ensures token { token_of token.new ≡ token_of token.old }
         ensures word { (track_of token.new.track).word ≡ (track_of token.old.track).word }
     {
-        self.undo_own(rt, token);
-        self.undo_joined(rt, token);
-    }
-
-    /// Undoes those of the token's own log.
-    fn undo_own<R: Wait>(&self, rt: &R, token: &mut StrandToken)
-        requires { IsOf self.now token.old }
-        ensures of { IsOf self.now token.new }
-        ensures returned { HasReturned token.old.seat.me token.new.seat.me }
-        ensures token { token_of token.new ≡ token_of token.old }
-    {
-        let block = token.place() as usize;
-        let count = token.nodes().len();
-        for n in block..count {
-            let access = token.nodes().get(n).and_then(access_of);
-            self.undo_access(rt, token, access);
-        }
-    }
-
-    /// Undoes those of the logs that were joined since the block was begun.
-    fn undo_joined<R: Wait>(&self, rt: &R, token: &mut StrandToken)
-        requires { IsOf self.now token.old }
-        ensures of { IsOf self.now token.new }
-        ensures returned { HasReturned token.old.seat.me token.new.seat.me }
-        ensures token { token_of token.new ≡ token_of token.old }
-    {
-        let column = token.log_column();
-        let block = token.place();
-        let joined = token.lend_joined();
-        self.undo_logs(rt, token, &joined, column, block);
-        token.keep_joined(joined);
-    }
-
-    fn undo_logs<R: Wait>(
-        &self,
-        rt: &R,
-        token: &mut StrandToken,
-        logs: &Logs,
-        column: u32,
-        block: u32,
-    )
-        requires { IsOf self.now token.old }
-        ensures of { IsOf self.now token.new }
-        ensures returned { HasReturned token.old.seat.me token.new.seat.me }
-        ensures token { token_of token.new ≡ token_of token.old }
-    {
-        let mut beneath = false;
-        for log in logs.iter() {
-            beneath |= log.from == column && log.fork > block;
-            if beneath {
-                self.undo_log(rt, token, log);
+        let cells = self.shared.cells();
+        let mut from = 0;
+        while let Some(cell) = token.next_touched(from) {
+            if cell >= cells {
+                return;
             }
+            self.undo_cell(rt, token, cell);
+            from = cell + 1;
         }
     }
 
-    fn undo_log<R: Wait>(&self, rt: &R, token: &mut StrandToken, log: &Log)
-        requires { IsOf self.now token.old }
-        ensures of { IsOf self.now token.new }
-        ensures returned { HasReturned token.old.seat.me token.new.seat.me }
-        ensures token { token_of token.new ≡ token_of token.old }
-    {
-        for node in log.nodes.as_slice() {
-            self.undo_access(rt, token, access_of(node));
-        }
-    }
-
-    /// Undoes an access in its cell, with all that came after it there. Does nothing if there is no such access or no such cell: no
-    /// rule of the table says yet that the cells of a log exist.
-    fn undo_access<R: Wait>(&self, rt: &R, token: &mut StrandToken, access: Option<(u32, u64)>)
-        requires { IsOf self.now token.old }
-        ensures of { IsOf self.now token.new }
-        ensures returned { HasReturned token.old.seat.me token.new.seat.me }
-        ensures token { token_of token.new ≡ token_of token.old }
-    {
-        let Some((cell, stamp)) = access else {
-            return;
-        };
-        if cell < self.shared.cells() {
-            self.undo_there(rt, token, cell, stamp);
-        }
-    }
-
-    fn undo_there<R: Wait>(&self, rt: &R, token: &mut StrandToken, cell: u32, stamp: u64)
+    /// Undoes those in one cell.
+    fn undo_cell<R: Wait>(&self, rt: &R, token: &mut StrandToken, cell: u32)
         requires of { IsOf self.now token.old }
         requires cell { cell < cells_in self.now }
         ensures of { IsOf self.now token.new }
@@ -158,7 +79,7 @@ impl Board {
         ensures token { token_of token.new ≡ token_of token.old }
     {
         let mut held = self.hold_cell(rt, token, cell, Aim::Undo);
-        cut(&mut held, stamp);
+        cut(&mut held, cell, token);
         self.leave_cell(token, cell, held);
     }
 }

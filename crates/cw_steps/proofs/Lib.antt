@@ -3,3 +3,4 @@ pub mod Tracks
 pub mod Concerns
 pub mod Steps
 pub mod Leaving
+pub mod Walked

@@ -7,3 +7,4 @@ pub mod Homes
 pub mod Stands
 pub mod Rule
 pub mod Leaving
+pub mod Beneath

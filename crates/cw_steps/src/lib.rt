@@ -4,14 +4,14 @@
 //! Contracts cite `specs/Rule.antt` (what is true of the table between any two steps), `specs/Views.antt` (what a token knows, and
 //! what each step makes of that), `specs/Homes.antt` (what comes home when a turn is given back), `specs/Tracks.antt` (a token's
 //! log, and where its strand stands in it), `specs/Stands.antt` (what a token stands for on a board, and what each step makes of
-//! that) and `specs/Leaving.antt` (what a closed table leaves; `Closings` of `cw_course` says how the logs make one tree).
+//! that), `specs/Beneath.antt` (what is beneath a token's place) and `specs/Leaving.antt` (what a closed table leaves; `Closings` of `cw_course` says how the logs make one tree).
 #![tactic(auto)]
 
+mod beneath;
 mod calls;
 mod closing;
 mod draw;
 mod law;
-mod logs;
 mod marks;
 mod places;
 mod seats;

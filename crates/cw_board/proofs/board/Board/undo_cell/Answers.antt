@@ -5,7 +5,7 @@ use Rattle.std.specs.Prelude.{IsSomeAnd}
 use Rattle.cw_steps.specs.Homes.{LeavesCell}
 use Rattle.cw_steps.specs.Views.{newest_cell, view_of}
 use Rattle.cw_board.proofs.Rolls.{gives_back, undone_since}
-use Rattle.cw_board.proofs.board.Board.undo_there.Goals as goal
+use Rattle.cw_board.proofs.board.Board.undo_cell.Goals as goal
 
 pub leave_cell-requires-clause-low : goal.leave_cell-requires-clause-low
 leave_cell-requires-clause-low g c = c.cut.ensures.low (view_of c.hold_cell-held.new.token).seen c.hold_cell-held.ensures.low

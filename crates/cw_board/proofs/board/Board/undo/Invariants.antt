@@ -1,0 +1,11 @@
+use Rattle.std.proofs.Common.{◌≡◌, ◌-◌, ◌≤◌}
+use Rattle.cw_steps.specs.Leaving.{HasReturned}
+use Rattle.cw_steps.specs.Stands.{token_of}
+use Rattle.cw_board.specs.Boards.{IsOf}
+use Rattle.cw_board.proofs.board.Board.undo.Given as goal
+
+abbrev pub invariant-loop-cell : goal.invariant-loop-cell
+invariant-loop-cell g l = IsOf l.self l.token × HasReturned l.fn.token.seat.me l.token.seat.me × (token_of l.token ≡ token_of l.fn.token) × (l.from ≤ l.cells)
+
+abbrev pub decreases-loop-cell : goal.decreases-loop-cell
+decreases-loop-cell g l = l.cells - l.from
