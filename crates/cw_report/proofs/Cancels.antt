@@ -10,7 +10,7 @@ use Rattle.std.proofs.lemmas.List.Folds.{list_any-append}
 use Rattle.cw_tree.specs.declared.node.Node.{Node}
 use Rattle.cw_tree.specs.Nodes.{all_nodes, below, parent_of}
 use Rattle.cw_tree.proofs.Lists.{map_below}
-use Rattle.cw_report.specs.Report.{has_cancel, is_cancel_leaf}
+use Rattle.cw_report.specs.Report.{has_own_cancel, is_cancel_leaf}
 
 -- m is a child of n
 abbrev pub is_child_of : List Node → (n m : ℕ) → Bool
@@ -46,9 +46,9 @@ module _ (t : List Node) where
     are = λ n h. ap (λ l. get_or l n false) q ∙ get_or-replicate k n false false (omega arith);
   }
 
-  pub met_end : (k : ℕ) (xs : List Bool) → Met t k xs → length t ≤ k → (1 ≤ length t → k ≤ length t) → xs ≡ map (has_cancel t) (all_nodes t)
+  pub met_end : (k : ℕ) (xs : List Bool) → Met t k xs → length t ≤ k → (1 ≤ length t → k ≤ length t) → xs ≡ map (has_own_cancel t) (all_nodes t)
   met_end k xs w h g =
-      map_below (has_cancel t) xs (length t) w.len (λ n d l.
+      map_below (has_own_cancel t) xs (length t) w.len (λ n d l.
       let len = w.len in
       let high : k ≤ length t = g (omega arith) in
       get_or_default xs n d false (omega arith) ∙ w.are n l ∙ ap (λ m. has_cancel_below t m n) (let end : k ≡ length t = omega arith in end))

@@ -36,12 +36,12 @@ abbrev pub is_cancel_leaf : List Node → ℕ → Bool
 is_cancel_leaf = is_node (λ x. is_cancel_kind x.kind)
 
 -- a child of node n is a cancel; one in a block within n is not a child of n
-abbrev pub has_cancel : List Node → ℕ → Bool
-has_cancel t n = list_any (is_cancel_leaf t) (children t n)
+abbrev pub has_own_cancel : List Node → ℕ → Bool
+has_own_cancel t n = list_any (is_cancel_leaf t) (children t n)
 
 -- a committed block with no aborted block above it, and with a cancel of its own
 abbrev pub stands_cancelled : List Node → ℕ → Bool
-stands_cancelled t n = stands_committed t n && has_cancel t n
+stands_cancelled t n = stands_committed t n && has_own_cancel t n
 
 -- ## What is named
 

@@ -2,7 +2,7 @@ ghost use Rattle.std.specs.Prelude.{◌≡◌, ◌<◌, length, map, IfOk};
 ghost use Rattle.cw_tree.specs.Accesses.{is_live};
 ghost use Rattle.cw_tree.specs.ForkCounts.{one_if};
 ghost use Rattle.cw_tree.specs.Nodes.{all_nodes, below, is_committed, is_strand};
-ghost use Rattle.cw_report.specs.Report.{count_nodes, has_cancel, is_cancel_leaf, is_undone, stands_cancelled, stands_committed};
+ghost use Rattle.cw_report.specs.Report.{count_nodes, has_own_cancel, is_cancel_leaf, is_undone, stands_cancelled, stands_committed};
 
 use cw_base::OutOfMemory;
 use cw_tree::{BlockState, Kind, Tree};
@@ -75,7 +75,7 @@ fn is_live(tree: &Tree, before: &[bool], n: u32) -> bool
 
 // Returns for each node whether a child of its own is a cancel.
 fn nodes_with_cancels(alloc: Global, tree: &Tree) -> Result<Vec<bool>, OutOfMemory>
-    ensures { IfOk result (λ cs. cs.items ≡ map (has_cancel tree.now) (all_nodes tree.now)) }
+    ensures { IfOk result (λ cs. cs.items ≡ map (has_own_cancel tree.now) (all_nodes tree.now)) }
 {
     let count = tree.nodes().len();
     let mut cancels = vec![in alloc; false; count]?;
@@ -114,7 +114,7 @@ fn stands_committed(tree: &Tree, lives: bool, n: u32) -> bool
 fn stands_cancelled(tree: &Tree, lives: bool, given_up: bool, n: u32) -> bool
     requires there { n < length tree.now }
     requires lives { lives ≡ is_live tree.now n }
-    requires given_up { given_up ≡ has_cancel tree.now n }
+    requires given_up { given_up ≡ has_own_cancel tree.now n }
     ensures { result ≡ stands_cancelled tree.now n }
 {
     stands_committed(tree, lives, n) && given_up

@@ -2,7 +2,7 @@ use Rattle.std.proofs.Common.{◌∙◌, ap, arith, get_or, length, rules}
 use Rattle.cw_tree.specs.Accesses.{is_live}
 use Rattle.cw_tree.specs.Nodes.{is_strand}
 use Rattle.cw_tree.proofs.Lists.{length_map_below, get_map_below}
-use Rattle.cw_report.specs.Report.{has_cancel, is_undone, stands_cancelled, stands_committed}
+use Rattle.cw_report.specs.Report.{has_own_cancel, is_undone, stands_cancelled, stands_committed}
 use Rattle.cw_report.proofs.Counted.{counted, one_more}
 use Rattle.cw_report.proofs.counts.Counts.of_tree.Goals as goal
 
@@ -35,7 +35,7 @@ overflow_add-counts-in-loop-n-2 c =
     omega (arith, one_more (is_undone t) c.loop-n.n c.loop-n.counts.undone c.one_if-in-loop-n-2.result c.loop-n.invariant.undone (c.one_if-in-loop-n-2.ensures ∙ search rules), ap length c.nodes.ensures.nodes, c.nodes.ensures.numbered.few)
 
 pub index-given_up-requires : goal.index-given_up-requires
-index-given_up-requires c = omega (arith, ap length c.in_ok-cancels.ensures, ap length c.nodes.ensures.nodes, length_map_below (has_cancel c.args.tree.now) (length c.args.tree.now))
+index-given_up-requires c = omega (arith, ap length c.in_ok-cancels.ensures, ap length c.nodes.ensures.nodes, length_map_below (has_own_cancel c.args.tree.now) (length c.args.tree.now))
 
 pub stands_cancelled-requires-clause-lives : goal.stands_cancelled-requires-clause-lives
 stands_cancelled-requires-clause-lives c =
@@ -46,7 +46,7 @@ pub stands_cancelled-requires-clause-given_up : goal.stands_cancelled-requires-c
 stands_cancelled-requires-clause-given_up c =
     let t = c.args.tree.now in
     let b = c.index-given_up.result.now in
-    c.index-given_up.ensures ∙ ap (λ xs. get_or xs c.loop-n.n b) c.in_ok-cancels.ensures ∙ get_map_below (has_cancel t) (length t) c.loop-n.n b (omega (arith, ap length c.nodes.ensures.nodes))
+    c.index-given_up.ensures ∙ ap (λ xs. get_or xs c.loop-n.n b) c.in_ok-cancels.ensures ∙ get_map_below (has_own_cancel t) (length t) c.loop-n.n b (omega (arith, ap length c.nodes.ensures.nodes))
 
 pub overflow_add-counts-in-loop-n-3 : goal.overflow_add-counts-in-loop-n-3
 overflow_add-counts-in-loop-n-3 c =
