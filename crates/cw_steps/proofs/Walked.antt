@@ -12,17 +12,17 @@ use Rattle.cw_tree.specs.declared.node.Node.{Node}
 use Rattle.cw_tree.specs.Nodes.{touches_kind}
 use Rattle.cw_tree.specs.Walks.{has}
 use Rattle.cw_log.specs.declared.log.Log.{Log}
-use Rattle.cw_steps.specs.Beneath.{cell_touched, cells_in, least_with, lesser, logs_beneath, touches_in}
+use Rattle.cw_steps.specs.Beneath.{cell_touched, cells_touched, least_with, lesser, logs_beneath, touches_in}
 
 pub least_more : (r : Option ℕ) (ms ns : List ℕ) → least_with r (ms ++ ns) ≡ least_with (least_with r ms) ns
 least_more r [] ns = refl
 least_more r (m ∷ ms) ns = least_more (lesser r m) ms ns
 
-pub cells_more : (p : ℕ → Bool) (xs ys : List Node) → filter p (cells_in (xs ++ ys)) ≡ filter p (cells_in xs) ++ filter p (cells_in ys)
-cells_more p xs ys = ap (filter p) (all xs) ∙ filter-append p (cells_in xs) (cells_in ys) where
-  all : (xs : List Node) → cells_in (xs ++ ys) ≡ cells_in xs ++ cells_in ys
+pub cells_more : (p : ℕ → Bool) (xs ys : List Node) → filter p (cells_touched (xs ++ ys)) ≡ filter p (cells_touched xs) ++ filter p (cells_touched ys)
+cells_more p xs ys = ap (filter p) (all xs) ∙ filter-append p (cells_touched xs) (cells_touched ys) where
+  all : (xs : List Node) → cells_touched (xs ++ ys) ≡ cells_touched xs ++ cells_touched ys
   all [] = refl
-  all (x ∷ xs) = ap (λ cs. option_to_list (cell_touched x.kind) ++ cs) (all xs) ∙ sym (append_assoc (option_to_list (cell_touched x.kind)) (cells_in xs) (cells_in ys))
+  all (x ∷ xs) = ap (λ cs. option_to_list (cell_touched x.kind) ++ cs) (all xs) ∙ sym (append_assoc (option_to_list (cell_touched x.kind)) (cells_touched xs) (cells_touched ys))
 
 pub touches_more : (p : ℕ → Bool) (c : ℕ) (xs ys : List Node) → filter p (touches_in c (xs ++ ys)) ≡ filter p (touches_in c xs) ++ filter p (touches_in c ys)
 touches_more p c xs ys =

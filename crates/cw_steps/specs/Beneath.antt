@@ -18,8 +18,8 @@ cell_touched (kind.Write c v) = Some c
 cell_touched k = None
 
 -- the cells that these nodes touched
-abbrev pub cells_in : List Node → List ℕ
-cells_in ns = flat_map (λ (x : Node). option_to_list (cell_touched x.kind)) ns
+abbrev pub cells_touched : List Node → List ℕ
+cells_touched ns = flat_map (λ (x : Node). option_to_list (cell_touched x.kind)) ns
 
 -- the stamps of the accesses of a cell among these nodes
 abbrev pub touches_in : (cell : ℕ) → List Node → List ℕ
@@ -36,7 +36,7 @@ abbrev pub nodes_beneath : Token → List Node
 nodes_beneath x = drop x.place x.own.nodes ++ flat_map (λ (l : Log). l.nodes) (logs_beneath x.own.column x.place x.joined)
 
 abbrev pub cells_beneath : Token → List ℕ
-cells_beneath x = cells_in (nodes_beneath x)
+cells_beneath x = cells_touched (nodes_beneath x)
 
 abbrev pub touched_beneath : Token → (cell : ℕ) → List ℕ
 touched_beneath x c = touches_in c (nodes_beneath x)

@@ -2,7 +2,7 @@
 ghost use Rattle.std.specs.Prelude.{◌≡◌, ◌==◌, ◌&&◌, ◌||◌, ◌≤◌, ◌∷◌, [], drop, filter, nat_le, nat_lt, IfSome, None};
 ghost use Rattle.cw_tree.specs.AccessStacks.{stamps};
 ghost use Rattle.cw_tree.specs.Walks.{has};
-ghost use Rattle.cw_steps.specs.Beneath.{cell_touched, cells_beneath, cells_in, least_with, touched_beneath, touches_in};
+ghost use Rattle.cw_steps.specs.Beneath.{cell_touched, cells_beneath, cells_touched, least_with, touched_beneath, touches_in};
 ghost use Rattle.cw_steps.specs.Stands.{token_of};
 
 use crate::{StrandToken, Track};
@@ -42,7 +42,7 @@ fn lies_beneath(before: bool, track: &Track, log: &Log) -> bool
 // ## Cells
 
 fn with_cell(least: Option<u32>, from: u32, node: &Node) -> Option<u32>
-    ensures { result ≡ least_with least (filter (nat_le from) (cells_in (node.now ∷ []))) }
+    ensures { result ≡ least_with least (filter (nat_le from) (cells_touched (node.now ∷ []))) }
 {
     let Some(cell) = cell_of(node) else {
         return least;
@@ -57,7 +57,7 @@ fn with_cell(least: Option<u32>, from: u32, node: &Node) -> Option<u32>
 }
 
 fn with_cells(found: Option<u32>, from: u32, nodes: &[Node]) -> Option<u32>
-    ensures { result ≡ least_with found (filter (nat_le from) (cells_in nodes.now)) }
+    ensures { result ≡ least_with found (filter (nat_le from) (cells_touched nodes.now)) }
 {
     let mut least = found;
     for node in nodes {

@@ -2,7 +2,7 @@ use Rattle.std.proofs.Common.{rules, ◌≡◌, ◌∷◌, drop, ap, sym, ◌∙
 use Rattle.std.proofs.lemmas.Bool.{leb-true}
 use Rattle.std.specs.Prelude.{IfSome, filter, nat_le}
 use Rattle.cw_tree.specs.declared.node.Node.{Node}
-use Rattle.cw_steps.specs.Beneath.{cells_beneath, cells_in, least_with, logs_beneath}
+use Rattle.cw_steps.specs.Beneath.{cells_beneath, cells_touched, least_with, logs_beneath}
 use Rattle.cw_steps.specs.Stands.{token_of}
 use Rattle.cw_steps.proofs.Walked.{all_pass, cells_more, found_more, least_kept, log_beneath, nodes_of, rest_beneath}
 use Rattle.cw_steps.proofs.table.StrandToken.next_touched.Goals as goal
@@ -11,13 +11,13 @@ pub loop-log-init : goal.loop-log-init
 loop-log-init c =
     let track = c.args.self.now.track in
     let p = nat_le c.args.from in
-    let own : c.with_cells-least.result ≡ least_with None (filter p (cells_in (drop track.place track.nodes.items))) =
-    c.with_cells-least.ensures ∙ ap (λ ns. least_with None (filter p (cells_in ns))) (c.since.ensures ∙ ap (drop track.place) c.as_slice.ensures.value) in
+    let own : c.with_cells-least.result ≡ least_with None (filter p (cells_touched (drop track.place track.nodes.items))) =
+    c.with_cells-least.ensures ∙ ap (λ ns. least_with None (filter p (cells_touched ns))) (c.since.ensures ∙ ap (drop track.place) c.as_slice.ensures.value) in
     let all : c.into_iter-log-iterator.result ≡ track.joined = search rules in (
       search rules,
       search rules,
-      ap (λ ls. least_with c.with_cells-least.result (filter p (cells_in (nodes_of (logs_beneath track.first track.place ls))))) all
-          ∙ found_more (λ ns. filter p (cells_in ns)) (cells_more p) None c.with_cells-least.result (drop track.place track.nodes.items) (nodes_of (logs_beneath track.first track.place track.joined)) own,
+      ap (λ ls. least_with c.with_cells-least.result (filter p (cells_touched (nodes_of (logs_beneath track.first track.place ls))))) all
+          ∙ found_more (λ ns. filter p (cells_touched ns)) (cells_more p) None c.with_cells-least.result (drop track.place track.nodes.items) (nodes_of (logs_beneath track.first track.place track.joined)) own,
     )
 
 pub loop-log-preserved-then-beneath : goal.loop-log-preserved-then-beneath
@@ -25,7 +25,7 @@ loop-log-preserved-then-beneath c =
     let (f, g, q) = c.loop-log.invariant in
     let track = c.args.self.now.track in
     let p = nat_le c.args.from in
-    let F : List Node → List _ = λ ns. filter p (cells_in ns) in
+    let F : List Node → List _ = λ ns. filter p (cells_touched ns) in
     let e : c.loop-log.log-iterator ≡ c.in-Some.log.now ∷ c.next.new.self = search rules in
     let found : c.with_cells-least-then-beneath.result ≡ least_with c.loop-log.least (F c.in-Some.log.now.nodes) = c.with_cells-least-then-beneath.ensures ∙ ap (λ ns. least_with c.loop-log.least (F ns)) c.as_slice-then-beneath.ensures in (
       search rules,

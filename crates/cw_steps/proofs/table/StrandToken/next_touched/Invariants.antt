@@ -1,5 +1,5 @@
 use Rattle.std.specs.Prelude.{◌≡◌, filter, nat_le, None}
-use Rattle.cw_steps.specs.Beneath.{cells_beneath, cells_in, least_with}
+use Rattle.cw_steps.specs.Beneath.{cells_beneath, cells_touched, least_with}
 use Rattle.cw_steps.specs.Stands.{token_of}
 use Rattle.cw_steps.proofs.Walked.{nodes_of, rest_beneath}
 use Rattle.cw_steps.proofs.table.StrandToken.next_touched.Given as goal
@@ -8,4 +8,4 @@ abbrev pub invariant-loop-log : goal.invariant-loop-log
 invariant-loop-log l =
     (goal.iterator-loop-log).can_next l.log-iterator ×
     (goal.iterator-loop-log).is_finite l.log-iterator ×
-    (least_with l.least (filter (nat_le l.from) (cells_in (nodes_of (rest_beneath l.beneath l.self.track.first l.self.track.place l.log-iterator)))) ≡ least_with None (filter (nat_le l.from) (cells_beneath (token_of l.self))))
+    (least_with l.least (filter (nat_le l.from) (cells_touched (nodes_of (rest_beneath l.beneath l.self.track.first l.self.track.place l.log-iterator)))) ≡ least_with None (filter (nat_le l.from) (cells_beneath (token_of l.self))))
