@@ -1,8 +1,8 @@
 //! What is beneath a token's place in its logs. Each call walks the logs once, and takes no memory.
-ghost use Rattle.std.specs.Prelude.{◌≡◌, ◌==◌, ◌&&◌, ◌||◌, ◌≤◌, ◌∷◌, [], drop, filter, nat_le, nat_lt, IfSome, None};
+ghost use Rattle.std.specs.Prelude.{◌≡◌, ◌==◌, ◌&&◌, ◌||◌, ◌≤◌, ◌∷◌, [], drop, filter, length, nat_le, nat_lt, IfSome, None};
 ghost use Rattle.cw_tree.specs.AccessStacks.{stamps};
 ghost use Rattle.cw_tree.specs.Walks.{has};
-ghost use Rattle.cw_steps.specs.Beneath.{cell_touched, cells_beneath, cells_touched, least_with, touched_beneath, touches_in};
+ghost use Rattle.cw_steps.specs.Beneath.{cell_touched, cells_beneath, cells_touched, least_with, logs_beneath, touched_beneath, touches_in};
 ghost use Rattle.cw_steps.specs.Stands.{token_of};
 
 use crate::{StrandToken, Track};
@@ -99,6 +99,19 @@ fn with_entries(found: Option<u64>, number: u32, cell: &Cell, nodes: &[Node]) ->
 // ## Beneath a token's place
 
 impl StrandToken {
+    /// Returns whether a log that was joined lies beneath the token's place.
+    pub fn has_logs_beneath(&self) -> bool
+        ensures { result ≡ nat_lt 0 (length (logs_beneath (token_of self.now).own.column (token_of self.now).place (token_of self.now).joined)) }
+    {
+        let track = &self.track;
+        for log in track.joined.iter() {
+            if lies_beneath(false, track, log) {
+                return true;
+            }
+        }
+        false
+    }
+
     /// Returns the smallest number of a cell, from `from` on, that an access beneath the token's place touched.
     pub fn next_touched(&self, from: u32) -> Option<u32>
         ensures least { result ≡ least_with None (filter (nat_le from) (cells_beneath (token_of self.now))) }
