@@ -343,7 +343,7 @@ for workers in 1 4; do
   try "one listed too many, $workers workers" 2 '' "$usage" sim --workers "$workers" --schedule "0$zeros"
 done
 for words in '--workers 0' '--workers 65' '--moves 0' '--strands 1000001' '--schedule 4' '--schedule 0,2 --workers 2' '--schedule=' '--schedule 0,' '--schedule +1' \
-  '--seed 18446744073709551616' '--seed 1 --schedule 0' '--schedule 0 --schedule 0' '--report 2' 'x'; do
+  '--seed 18446744073709551616' '--seed 1 --schedule 0' '--schedule 0 --schedule 0' '--report 3' 'x'; do
   # the words stand apart by blanks
   # shellcheck disable=SC2086
   try "sim $words" 2 '' "$usage" sim $words
@@ -397,7 +397,32 @@ try 'a fault' 6 $'fault Size in 0\n'"$(report 1 '0 0')"$'\n' '' run --size 3 --r
 printf 'cell c; fn main() { spawn { atomic { c = c + 1; } } spawn { atomic { c = c + 1; } } spawn { atomic { c = c + 1; } } }' > source
 try 'one worker' 0 $'c = 3\nend\n'"$(report 7 '3 0')"$'\n' '' run --workers 1 --report 1
 try 'threads that may not be parted' 0 $'c = 3\nend\n'"$(report 7 '3 0')"$'\n' '' run --strands 2 --report 1
-for words in '--report 2' '--report 0' '--report -1' '--report' '--report= ' '--report 1 --report=1' '--reports 1'; do
+# report 2: the blocks that were given up
+printf 'language 2; cell a = 1; cell b = 2; fn main() { atomic { spawn { a = 7; } atomic { b = 8; } cancel; } }' > source
+try 'report 2' 0 $'a = 1\nb = 2\nend\nreport 2\nstrands 3\nblocks 2 0 cancelled 1\nconflicts 0\nend report\n' '' sim --workers 1 --report 2
+try 'report 1 of the same' 0 $'a = 1\nb = 2\nend\nreport 1\nstrands 3\nblocks 2 0\nconflicts 0\nend report\n' '' sim --workers 1 --report 1
+try 'report 02' 0 $'a = 1\nb = 2\nend\nreport 2\nstrands 3\nblocks 2 0 cancelled 1\nconflicts 0\nend report\n' '' sim --workers 1 --report=02
+# given_up SOURCE STATUS WANTED WORD..: with `/` for a newline, and what every report 2 of no conflicts ends in behind it
+given_up() {
+  local source=$1 status=$2 wanted=$3
+  shift 3
+  printf '%s' "$source" > source
+  try "report 2 of $source" "$status" "$(printf '%s' "$wanted" | tr '/' '\n')"$'\nconflicts 0\nend report\n' '' "$@" --report 2
+}
+given_up 'language 2; cell c; fn main() { let i = 0; while i < 100 { spawn { atomic { c = c + 1; cancel; } } i = i + 1; } }' 0 \
+  'c = 0/end/report 2/strands 201/blocks 100 0 cancelled 100' sim --workers 1
+given_up 'language 2; cell a[4] = 100; fn t(i, j, x, k) { atomic { a[i] = a[i] - x; a[j] = a[j] + x; if k { cancel; } } } fn main() { let i = 0; while i < 200 { spawn { t(i % 4, (i + 1) % 4, i, i % 3 == 0); } i = i + 1; } sync; out a[0] + a[1] + a[2] + a[3]; }' 0 \
+  'out 400/a[0] = 199/a[1] = 2/a[2] = 200/a[3] = -1/end/report 2/strands 401/blocks 200 0 cancelled 67' sim --workers 1
+given_up 'language 2; cell c; fn main() { atomic { c = 1; atomic { c = 2; cancel; } cancel; } atomic { c = c + 5; } }' 0 'c = 5/end/report 2/strands 1/blocks 3 0 cancelled 2' sim --workers 1
+given_up 'language 2; cell c; cell d; fn main() { atomic { atomic { cancel; } c = 1; d = 2; cancel; } }' 6 'fault Size in 0/report 2/strands 1/blocks 1 0 cancelled 1' sim --workers 1 --size 4
+given_up 'cell c; fn main() { atomic { c = 1; } }' 0 'c = 1/end/report 2/strands 1/blocks 1 0 cancelled 0' run
+printf 'language 2; cell c; cell d; fn main() { spawn { atomic { c = 1; } } atomic { atomic { d = 2; cancel; } c = 3; } }' > source
+"$program" sim --workers 2 --schedule 0,1,0,0,1,1,1,1,1,1,1,1,0,1 --report 2 < source > told 2> note
+status=$?
+grep -v '^conflict' told > text
+judge 'a block that was given up in an attempt' "$status" 0 $'c = 3\nd = 0\nend\nreport 2\nstrands 3\nblocks 3 2 cancelled 1\nend report\n' ''
+
+for words in '--report 3' '--report 0' '--report -1' '--report' '--report= ' '--report 1 --report=1' '--reports 1'; do
   # shellcheck disable=SC2086
   try "run $words" 2 '' "$usage" run $words
 done
@@ -443,6 +468,61 @@ printf 'fn main() {}' > source
 judge 'a sheet to a full device' $? 4 '' $'cwstm: write fault\n'
 "$program" keep <&- > text 2> note
 judge 'a sheet where nothing can be read' $? 3 '' $'cwstm: read fault\n'
+
+# ## Races
+
+# races_of WANTED SOURCE WORD..: the races of this source, with `/` for a newline
+races_of() {
+  local wanted=$1 source=$2
+  shift 2
+  printf '%s' "$source" > source
+  try "the races of $source" 0 "$(printf '%s' "$wanted" | tr '/' '\n')"$'\n' '' races "$@"
+}
+races_of 'race c first 0.1l@4 second 0.1r@5/races 1/end' 'cell c; fn main() { atomic { spawn { c = c + 1; } c = c + 1; } }'
+for source in 'cell c; fn main() { atomic { spawn { atomic { c = c + 1; } } atomic { c = c + 1; } } }' 'cell c; fn main() { spawn { atomic { c = 1; } } c = 2; }' \
+  'cell c; fn main() { spawn { out c; } out c; }' 'cell c; fn main() { spawn { c = 1; } sync; c = 2; }' \
+  'cell c; fn f() { atomic { c = c + 1; } } fn main() { spawn { f(); } f(); }' 'fn main() {}' \
+  'cell c; fn main() { atomic { spawn { out c; } spawn { out c; } sync; c = 1; } }' \
+  'language 2; cell c; fn main() { atomic { spawn { out c; } atomic { c = 5; } cancel; } }' 'language 2; cell c; fn main() { spawn { atomic { c = 1; cancel; } } c = 2; }'; do
+  races_of 'races 0/end' "$source"
+done
+# each row: the two accesses, and what main does
+while IFS='|' read -r accesses body; do
+  races_of "race c $accesses/races 1/end" "cell c; fn main() { $body }"
+done << 'END'
+first 0.1l@2 second 0.1r@6|spawn { out c; } out c; c = 1;
+first 0.1l@4 second 0.1r@6|out c; spawn { out c; } c = 1;
+first 0.1l@5 second 0.1r@7|spawn { spawn { out c; } sync; out c; } c = 1;
+first 0.2l@6 second 0.2r@8|spawn { out c; } sync; c = 1; spawn { out c; } c = 2;
+first 0.1l@2 second 0.1r.1l@4|spawn { c = 1; sync; } spawn { c = 2; } spawn { c = 3; }
+first 0.1l@3 second 0.1r@7|atomic { spawn { c = 1; } atomic { c = 2; } c = 3; }
+END
+races_of 'race d first 0.1l@3 second 0.1r@10/races 1/end' 'cell c; cell d; fn main() { atomic { spawn { d = 1; atomic { c = 1; } } atomic { c = 2; } d = 2; } }'
+races_of 'race b first 0.1l@3 second 0.1r@4/race c first 0.1l@2 second 0.1r@5/races 2/end' 'cell b; cell c; fn main() { spawn { c = 1; b = 1; } b = 2; c = 2; c = 3; }'
+races_of 'race a[1] first 0.1l@2 second 0.1r@4/races 1/end' 'cell a[2]; fn main() { spawn { a[1] = 1; } a[0] = 2; a[1] = 3; }'
+races_of 'race c first 0.1l.1l.1r@4 second 0.1l.1r@5/races 1/end' 'cell c; fn f(n) { if n { spawn { f(n - 1); } c = n; } } fn main() { f(3); }'
+races_of 'race c first 0.1l@2 second 0.1r@3/races 1/end' 'cell c; fn main(x) { spawn { c = x; } out c; }' -- -7
+races_of 'race c first 0.1l@3 second 0.1r@4/races 1/end' 'language 2; cell c; fn main() { atomic { spawn { c = 1; } c = 2; cancel; } }'
+races_of 'race c first 0.1l@3 second 0.1r@5/races 1/end' 'language 2; cell c; fn main() { atomic { spawn { out c; } let x = 1; c = 4; cancel; } out c; }'
+printf 'cell c; fn main() { spawn { c = 1 / c; } c = 2; }' > source
+try 'the races of a run that ends at a fault' 6 $'fault Zero in 0.1l\n' '' races
+printf 'cell c; fn main() { c = 1; c = 2; }' > source
+try 'races with too little fuel' 6 $'fault Fuel in 0\n' '' races --fuel 1
+printf 'cell c; fn main() { c = c + 1; out c; }' > source
+try 'races with too small a size' 6 $'fault Size in 0\n' '' races --size 3
+for words in '--workers 1' '--aborts 3' '--report 1' '--strands 2' '--moves 2' '7' 'x'; do
+  # the words stand apart by blanks
+  # shellcheck disable=SC2086
+  try "races $words" 2 '' "$usage" races $words
+done
+printf 'fn main( {}' > source
+try 'the races of a source that is refused' 5 '' $'cwstm: line 1: Unexpected\n' races
+printf 'language 3; fn main() {}' > source
+try 'the races of a source in a third language' 5 '' $'cwstm: line 1: Unexpected\n' races
+printf 'fn main() {}' > source
+: > text
+"$program" races < source > /dev/full 2> note
+judge 'races to a full device' $? 4 '' $'cwstm: write fault\n'
 
 # ## Reading and writing that fail
 

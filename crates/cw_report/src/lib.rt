@@ -7,11 +7,13 @@
 mod counts;
 mod elements;
 mod found;
+mod names;
 mod report;
 mod results;
 
 ghost use Rattle.cw_report.specs.Worked.{Cancelled, Counts, Lines};
 
+pub use names::RunNames;
 pub use report::report_text;
 pub use results::result_text;
 

@@ -12,13 +12,13 @@ use Rattle.cw_record.specs.declared.record.Record.{Record}
 use Rattle.cw_record.specs.declared.record_end.RecordEnd.{RecordEnd}
 use Rattle.cw_record.specs.declared.record_end.RecordEnd.TheVariants.{Finished, Fault, Budget, Moves}
 use Rattle.cw_record.specs.Coherent.{halt_of}
-use Rattle.cw_record.specs.Records.{IsCoherentRun, IsReplayed, job_of_record}
+use Rattle.cw_record.specs.Records.{HasEnded, IsCoherentRun, IsReplayed, job_of_record}
 use Rattle.cw_record.specs.Replay.{IsSpent, SameEnd}
 use Rattle.cw_record.proofs.Replay.OneRun.{same_end}
 use Rattle.cw_replay.proofs.Found.{find_contains}
 use Rattle.cw_replay.proofs.Attempts.Recorded.{conflict_has_fork, records_attempts}
 use Rattle.cw_words.specs.declared.command.Command.{Command}
-use Rattle.cw_words.specs.declared.command.Command.TheVariants.{Run, Sim, Load, Keep}
+use Rattle.cw_words.specs.declared.command.Command.TheVariants.{Run, Sim, Load, Keep, Races}
 use Rattle.cw_top.specs.declared.outcome.Note.{Note}
 use Rattle.cw_top.specs.declared.outcome.Note.TheVariants as note
 use Rattle.cw_top.specs.Outcome.{IsStatus, status_of_end}
@@ -69,6 +69,7 @@ by_command : (co : Command) (r : Record) → IsNumbered r.tree → IsReplayed r 
 by_command (Run ws ls w p) r tree same done x is = stands r tree same x is
 by_command (Load tr w) r tree same done x is = stands r tree same x is
 by_command (Keep ws ls w) r tree same done x is = stands r tree same x is
+by_command (Races ws ls) r tree same done x is = subst HasEnded is done.ended
 by_command (Sim ws ls w s p) r tree same done x is = budget r tree same x is done.coherent
 
 pub spends : (command : Option Command) (kept : Option Record) (status : ℕ) (n : Note) (left : Option (List ℕ)) → IsStatus kept status n → IfSome kept (IsRunOf command left) → IfSome kept (IsDoneAs command) → status ≡ 7 → IsSomeAnd kept (IsSpentBy command)

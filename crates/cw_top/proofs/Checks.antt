@@ -6,7 +6,7 @@ use Rattle.cw_record.specs.declared.record_end.RecordEnd.{RecordEnd}
 use Rattle.cw_record.specs.declared.record_end.RecordEnd.TheVariants.{Finished, Fault, Budget, Moves}
 use Rattle.cw_record.specs.Records.{IsReplayed}
 use Rattle.cw_words.specs.declared.command.Command.{Command}
-use Rattle.cw_words.specs.declared.command.Command.TheVariants.{Run, Sim, Load, Keep}
+use Rattle.cw_words.specs.declared.command.Command.TheVariants.{Run, Sim, Load, Keep, Races}
 use Rattle.cw_top.specs.declared.outcome.Note.{Note}
 use Rattle.cw_top.specs.declared.outcome.Note.TheVariants as note
 use Rattle.cw_top.specs.Outcome.{IsStatus, status_of_end}
@@ -57,6 +57,7 @@ by_command : (co : Command) (r : Record) → IsReady co → IsDoneBy co r → (I
 by_command (Run ws ls w p) r ready done differs = thread_differs w r ready.0 done differs
 by_command (Load tr w) r ready done differs = thread_differs w r ready.0 done differs
 by_command (Keep ws ls w) r ready done differs = thread_differs w r ready.0 done differs
+by_command (Races ws ls) r ready done differs = differs done.replays
 by_command (Sim ws ls w s p) r ready done differs = absurd (differs done.replays)
 
 by_kept : (command : Option Command) (kept : Option Record) → IfSome command IsReady → IfSome kept (IsDoneAs command) → IsSomeAnd kept (λ r. IsReplayed r → ⊥) → HasSeveralThreads command

@@ -13,7 +13,7 @@ use Rattle.cw_text.specs.Syntax.{Declaration}
 use Rattle.cw_strand.specs.Programs.{IsProgramOf}
 use Rattle.cw_gen.specs.Load.{load_tree}
 use Rattle.cw_words.specs.declared.command.Command.{Command}
-use Rattle.cw_words.specs.declared.command.Command.TheVariants.{Run, Sim, Load, Keep}
+use Rattle.cw_words.specs.declared.command.Command.TheVariants.{Run, Sim, Load, Keep, Races}
 use Rattle.cw_top.specs.Runs.{IsRunBy, IsRunOf}
 use Rattle.cw_top.specs.OverSource.{IsRunOfSource, IsRunOfSyntax, IsRunOfDeclarations}
 use Rattle.cw_top.specs.Refusals.{Spells, newest_language}
@@ -43,4 +43,6 @@ of_source (Some (Sim ws ls w s p)) None (Some r) run same = tt
 of_source (Some (Sim ws ls w s p)) (Some bytes) (Some r) run same = of_syntax (Sim ws ls w s p) bytes r run.program run same
 of_source (Some (Keep ws ls w)) None (Some r) run same = tt
 of_source (Some (Keep ws ls w)) (Some bytes) (Some r) run same = of_syntax (Keep ws ls w) bytes r run.program run same
+of_source (Some (Races ws ls)) None (Some r) run same = tt
+of_source (Some (Races ws ls)) (Some bytes) (Some r) run same = of_syntax (Races ws ls) bytes r run.program run same
 of_source (Some (Load tr w)) left (Some r) run same = of_tree (Load tr w) left (load_tree tr) r run.program run same

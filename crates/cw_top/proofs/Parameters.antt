@@ -15,7 +15,7 @@ use Rattle.cw_job.proofs.Room.Lawful.{source_takes}
 use Rattle.cw_gen.specs.Load.{load_tree}
 use Rattle.cw_gen.proofs.Mains.{takes_no_words}
 use Rattle.cw_words.specs.declared.command.Command.{Command}
-use Rattle.cw_words.specs.declared.command.Command.TheVariants.{Run, Sim, Load, Keep}
+use Rattle.cw_words.specs.declared.command.Command.TheVariants.{Run, Sim, Load, Keep, Races}
 use Rattle.cw_words.specs.Words.{words_of}
 use Rattle.cw_top.specs.declared.outcome.Note.TheVariants.{Usage}
 use Rattle.cw_top.specs.Outcome.{HasCause}
@@ -60,4 +60,5 @@ pub of_no_use : (co : Command) (left : Option (List ℕ)) (p : Program) (r w : T
 of_no_use (Run ws ls wk rp) left p r w its other = misfits 1 left ws p its other
 of_no_use (Sim ws ls wk sc rp) left p r w its other = misfits 2 left ws p its other
 of_no_use (Keep ws ls wk) left p r w its other = misfits 1 left ws p its other
+of_no_use (Races ws ls) left p r w its other = misfits 2 left ws p its other
 of_no_use (Load tr wk) left p r w its other = other (code_takes (load_tree tr) p its 0 (takes_no_words tr))

@@ -9,7 +9,7 @@ use Rattle.cw_sim.specs.Turns.{ListsWorkers}
 use Rattle.cw_words.specs.declared.command.Command.TheVariants.{Load}
 use Rattle.cw_code.specs.Ranges.{NumberOption, aborts_option, fuel_option, moves_option, size_option, strands_option, workers_option}
 use Rattle.cw_words.specs.Options.{Given, GivenOption, are_known, given, integers_of, list_below, number_in, number_given, number_within, numbers_below, sole_word, parts_of, option_value}
-use Rattle.cw_words.specs.Words.{command_of, keep_given, keep_options, limits_given, load_given, load_options, most_transfers, transfers_given, report_given, run_given, run_options, schedule_given, schedule_in, sim_given, sim_options, most_listed}
+use Rattle.cw_words.specs.Words.{command_of, keep_given, keep_options, limits_given, load_given, load_options, most_transfers, races_given, races_options, transfers_given, report_given, run_given, run_options, schedule_given, schedule_in, sim_given, sim_options, most_listed}
 use Rattle.cw_top.specs.Runs.{IsReady}
 
 -- ## Values that may be missing
@@ -126,13 +126,17 @@ keep_ready g = where_true IsReady (are_known keep_options g.options) _
     then_some (λ w. 1 ≤ w) IsReady _ (number_given workers_option g.options) (at_least workers_option g.options (omega arith)) (λ w m.
     map_some IsReady _ (integers_of g.words) (λ ns. (omega arith, l)))))
 
+races_ready : (g : Given) → IfSome (races_given g) IsReady
+races_ready g = where_true IsReady (are_known races_options g.options) _ (each_some IsReady _ (limits_given g.options) (λ ls. map_some IsReady _ (integers_of g.words) (λ ns. tt)))
+
 pub ready : (words : List (List ℕ)) → IfSome (command_of words) IsReady
 ready [] = tt
-ready (name ∷ words) = go (bytes_eq name (codes "run")) (bytes_eq name (codes "sim")) (bytes_eq name (codes "load")) (bytes_eq name (codes "keep"))
+ready (name ∷ words) = go (bytes_eq name (codes "run")) (bytes_eq name (codes "sim")) (bytes_eq name (codes "load")) (bytes_eq name (codes "keep")) (bytes_eq name (codes "races"))
   where
-    go : (a b c d : Bool) → IfSome (if a then option_and_then run_given (given words) else if b then option_and_then sim_given (given words) else if c then option_and_then load_given (given words) else if d then option_and_then keep_given (given words) else None) IsReady
-    go true b c d = each_some IsReady run_given (given words) run_ready
-    go false true c d = each_some IsReady sim_given (given words) sim_ready
-    go false false true d = each_some IsReady load_given (given words) load_ready
-    go false false false true = each_some IsReady keep_given (given words) keep_ready
-    go false false false false = tt
+    go : (a b c d e : Bool) → IfSome (if a then option_and_then run_given (given words) else if b then option_and_then sim_given (given words) else if c then option_and_then load_given (given words) else if d then option_and_then keep_given (given words) else if e then option_and_then races_given (given words) else None) IsReady
+    go true b c d e = each_some IsReady run_given (given words) run_ready
+    go false true c d e = each_some IsReady sim_given (given words) sim_ready
+    go false false true d e = each_some IsReady load_given (given words) load_ready
+    go false false false true e = each_some IsReady keep_given (given words) keep_ready
+    go false false false false true = each_some IsReady races_given (given words) races_ready
+    go false false false false false = tt

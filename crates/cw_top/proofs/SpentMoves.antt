@@ -1,12 +1,12 @@
 -- Status 9: the moves of a simulation were made without an end, and the text was written.
-use Rattle.std.proofs.Common.{◌≡◌, ◌∙◌, ℕ, Option, Some, None, IfSome, IsSomeAnd, ap, inl, inr, refl, sym}
+use Rattle.std.proofs.Common.{◌≡◌, ◌∙◌, ℕ, Option, Some, None, IfSome, IsSomeAnd, ap, inl, inr, refl, subst, sym}
 use Rattle.std.specs.Prelude.{◌↔◌}
 use Rattle.cw_record.specs.declared.record.Record.{Record}
 use Rattle.cw_record.specs.declared.record_end.RecordEnd.{RecordEnd}
 use Rattle.cw_record.specs.declared.record_end.RecordEnd.TheVariants.{Finished, Fault, Budget, Moves}
-use Rattle.cw_record.specs.Records.{job_of_record}
+use Rattle.cw_record.specs.Records.{HasEnded, job_of_record}
 use Rattle.cw_words.specs.declared.command.Command.{Command}
-use Rattle.cw_words.specs.declared.command.Command.TheVariants.{Run, Sim, Load, Keep}
+use Rattle.cw_words.specs.declared.command.Command.TheVariants.{Run, Sim, Load, Keep, Races}
 use Rattle.cw_top.specs.declared.outcome.Note.{Note}
 use Rattle.cw_top.specs.declared.outcome.Note.TheVariants as note
 use Rattle.cw_top.specs.Outcome.{IsStatus, IsStatusOf, status_of_end}
@@ -24,12 +24,14 @@ spent : (c : Command) (r : Record) → IsDoneBy c r → r.end ≡ Moves → HasS
 spent (Run ws ls w p) r done e = done.moves e
 spent (Load tr w) r done e = done.moves e
 spent (Keep ws ls w) r done e = done.moves e
+spent (Races ws ls) r done e = subst HasEnded e done.ended
 spent (Sim ws ls w s p) r done e = (left_told (job_of_record r) w s r done.moves).0 e
 
 told : (c : Command) (r : Record) → IsDoneBy c r → HasSpentMoves (Some c) r → r.end ≡ Moves
 told (Run ws ls w p) r done e = absurd e
 told (Load tr w) r done e = absurd e
 told (Keep ws ls w) r done e = absurd e
+told (Races ws ls) r done e = absurd e
 told (Sim ws ls w s p) r done e = (left_told (job_of_record r) w s r done.moves).1 e
 
 -- the moves of a simulation replay, whatever their end is
@@ -38,6 +40,7 @@ of_moves c r status done (inl (same, is)) h = is ∙ ap status_of_end (told c r 
 of_moves (Run ws ls w p) r status done (inr (other, is)) h = absurd h
 of_moves (Load tr w) r status done (inr (other, is)) h = absurd h
 of_moves (Keep ws ls w) r status done (inr (other, is)) h = absurd h
+of_moves (Races ws ls) r status done (inr (other, is)) h = absurd h
 of_moves (Sim ws ls w s p) r status done (inr (other, is)) h = absurd (other done.replays)
 
 to_moves : (c : Command) (r : Record) (status : ℕ) → IsDoneBy c r → IsStatusOf r status → status ≡ 9 → HasSpentMoves (Some c) r

@@ -16,7 +16,7 @@ use Rattle.cw_record.specs.Records.{HasEnded, IsReplayed}
 use Rattle.cw_record.specs.Replay.{SameEnd}
 use Rattle.cw_record.proofs.Replay.OneRun.{same_end}
 use Rattle.cw_words.specs.declared.command.Command.{Command}
-use Rattle.cw_words.specs.declared.command.Command.TheVariants.{Run, Sim, Load, Keep}
+use Rattle.cw_words.specs.declared.command.Command.TheVariants.{Run, Sim, Load, Keep, Races}
 use Rattle.cw_top.specs.declared.outcome.Note.{Note}
 use Rattle.cw_top.specs.declared.outcome.Note.TheVariants as note
 use Rattle.cw_top.specs.Refusals.{AsksFor, IsMisfit, Spells, refusal}
@@ -25,7 +25,7 @@ use Rattle.cw_top.proofs.Parameters.{fits, spelled_accepted}
 use Rattle.cw_top.specs.Outcome.{HasCause, IsCauseOfRun, IsCauseOfTelling, IsMisused, IsRefusedWith, IsStatus, IsStatusOf, IsSurelyMisused, IsSurelyRefused, MayBeMisusedWith, MayEndWith, status_of_end, FailsToRead}
 use Rattle.cw_top.specs.Runs.{HasSeveralWorkers, IsDoneAs, IsDoneBy, IsOfMoves, IsOfThreads, IsReady, IsRunOf}
 use Rattle.cw_top.specs.Taken.{Accepts, IsRefusedFor, IsRefusedIn}
-use Rattle.cw_top.specs.Written.{IsTextBy, IsTextOf, Tells, Writes, WritesEndOfOneMemory, end_of_one_memory, text_owed}
+use Rattle.cw_top.specs.Written.{IsTextBy, IsTextOfCommand, Tells, Writes, WritesEndOfOneMemory, end_of_one_memory, text_owed}
 
 -- words that are no command come to status 2, or memory runs out
 of_none : (kept : Option Record) (status : ℕ) (n : Note) → (n ≡ note.Usage) ⊎ (n ≡ note.Memory) → IsStatus kept status n → (status ≡ 2) ⊎ (status ≡ 1)
@@ -42,6 +42,7 @@ memory_cause None n left r w is = inr is
 memory_cause (Some (Run ws ls wk p)) n left r w is = subst (λ m. IsCauseOfRun 1 ws m left r w) (sym is) tt
 memory_cause (Some (Sim ws ls wk sc p)) n left r w is = subst (λ m. IsCauseOfRun 2 ws m left r w) (sym is) tt
 memory_cause (Some (Keep ws ls wk)) n left r w is = subst (λ m. IsCauseOfRun 1 ws m left r w) (sym is) tt
+memory_cause (Some (Races ws ls)) n left r w is = subst (λ m. IsCauseOfRun 2 ws m left r w) (sym is) tt
 memory_cause (Some (Load tr wk)) n left r w is = subst (λ m. IsCauseOfTelling m w) (sym is) tt
 
 -- once there is a run, a command ends for the same causes as its telling
@@ -58,6 +59,7 @@ pub telling_cause : (co : Command) (n : Note) (left : Option (List ℕ)) (r w : 
 telling_cause (Run ws ls wk p) n left r w cause = run_cause 1 ws n left r w cause
 telling_cause (Sim ws ls wk sc p) n left r w cause = run_cause 2 ws n left r w cause
 telling_cause (Load tr wk) n left r w cause = cause
+telling_cause (Races ws ls) n left r w cause = run_cause 2 ws n left r w cause
 telling_cause (Keep ws ls wk) n left r w cause = run_cause 1 ws n left r w cause
 
 no_end : (e : RecordEnd) (status : ℕ) → status ≡ status_of_end e → (status ≢ 2) × (status ≢ 3) × (status ≢ 4) × (status ≢ 5)
@@ -107,6 +109,7 @@ usage None kept status n left r w is cause h = tt
 usage (Some (Run ws ls wk p)) kept status n left r w is cause h = usage_of 1 ws kept status n left r w is cause h
 usage (Some (Sim ws ls wk sc p)) kept status n left r w is cause h = usage_of 2 ws kept status n left r w is cause h
 usage (Some (Keep ws ls wk)) kept status n left r w is cause h = usage_of 1 ws kept status n left r w is cause h
+usage (Some (Races ws ls)) kept status n left r w is cause h = usage_of 2 ws kept status n left r w is cause h
 usage (Some (Load tr wk)) kept status n left r w is cause h = (load_causes kept status n w is cause).0 h
 
 read_fault_of : (l : ℕ) (words : List ℤ) (kept : Option Record) (status : ℕ) (n : Note) (left : Option (List ℕ)) (r w : Type 0) → IsStatus kept status n → IsCauseOfRun l words n left r w → status ≡ 3 → r
@@ -123,6 +126,7 @@ read_fault None kept status n left r w is cause h = absurd ((not_low status (of_
 read_fault (Some (Run ws ls wk p)) kept status n left r w is cause h = read_fault_of 1 ws kept status n left r w is cause h
 read_fault (Some (Sim ws ls wk sc p)) kept status n left r w is cause h = read_fault_of 2 ws kept status n left r w is cause h
 read_fault (Some (Keep ws ls wk)) kept status n left r w is cause h = read_fault_of 1 ws kept status n left r w is cause h
+read_fault (Some (Races ws ls)) kept status n left r w is cause h = read_fault_of 2 ws kept status n left r w is cause h
 read_fault (Some (Load tr wk)) kept status n left r w is cause h = absurd ((load_causes kept status n w is cause).1 h)
 
 write_fault_of : (l : ℕ) (words : List ℤ) (kept : Option Record) (status : ℕ) (n : Note) (left : Option (List ℕ)) (r w : Type 0) → IsStatus kept status n → IsCauseOfRun l words n left r w → status ≡ 4 → w
@@ -139,6 +143,7 @@ write_fault None kept status n left r w is cause h = absurd ((not_low status (of
 write_fault (Some (Run ws ls wk p)) kept status n left r w is cause h = write_fault_of 1 ws kept status n left r w is cause h
 write_fault (Some (Sim ws ls wk sc p)) kept status n left r w is cause h = write_fault_of 2 ws kept status n left r w is cause h
 write_fault (Some (Keep ws ls wk)) kept status n left r w is cause h = write_fault_of 1 ws kept status n left r w is cause h
+write_fault (Some (Races ws ls)) kept status n left r w is cause h = write_fault_of 2 ws kept status n left r w is cause h
 write_fault (Some (Load tr wk)) kept status n left r w is cause h = load_writes kept status n w is cause h
 
 refused_of : (l : ℕ) (words : List ℤ) (kept : Option Record) (status : ℕ) (n : Note) (left : Option (List ℕ)) (r w : Type 0) → IsStatus kept status n → IsCauseOfRun l words n left r w → status ≡ 5 → IsRefusedIn l n left
@@ -155,6 +160,7 @@ refused None kept status n left r w is cause h = absurd ((not_low status (of_non
 refused (Some (Run ws ls wk p)) kept status n left r w is cause h = refused_of 1 ws kept status n left r w is cause h
 refused (Some (Sim ws ls wk sc p)) kept status n left r w is cause h = refused_of 2 ws kept status n left r w is cause h
 refused (Some (Keep ws ls wk)) kept status n left r w is cause h = refused_of 1 ws kept status n left r w is cause h
+refused (Some (Races ws ls)) kept status n left r w is cause h = refused_of 2 ws kept status n left r w is cause h
 refused (Some (Load tr wk)) kept status n left r w is cause h = absurd ((load_causes kept status n w is cause).2 h)
 
 -- ## Which statuses come
@@ -187,6 +193,13 @@ came (Fault x k) status workers more is = inr (inl is)
 came (Budget x) status workers more is = inr (inr (inl (is, more x refl)))
 came Moves status workers more is = inr (inr (inr (inl is)))
 
+-- the statuses of runs that ended by themselves, or at a fault
+alone : (e : RecordEnd) (status : ℕ) → HasEnded e → status ≡ status_of_end e → (status ≡ 0) ⊎ (status ≡ 6) ⊎ (status ≡ 1)
+alone (Finished m o) status ended is = inl is
+alone (Fault x k) status ended is = inr (inl is)
+alone (Budget x) status ended is = absurd ended
+alone Moves status ended is = absurd ended
+
 may_end : (co : Command) (x : Record) (status : ℕ) → IsReady co → IsDoneBy co x → IsStatusOf x status → MayEndWith (Some co) status
 may_end (Run ws ls w p) x status ready done (inl (same, is)) = on_threads x.end status w done.moves (thread_spends w x ready.0 done) is
 may_end (Run ws ls w p) x status ready done (inr (other, is)) = inr (inr (inr (inl (is, thread_differs w x ready.0 done other))))
@@ -194,6 +207,8 @@ may_end (Load tr w) x status ready done (inl (same, is)) = on_threads x.end stat
 may_end (Load tr w) x status ready done (inr (other, is)) = inr (inr (inr (inl (is, thread_differs w x ready.0 done other))))
 may_end (Keep ws ls w) x status ready done (inl (same, is)) = on_threads x.end status w done.moves (thread_spends w x ready.0 done) is
 may_end (Keep ws ls w) x status ready done (inr (other, is)) = inr (inr (inr (inl (is, thread_differs w x ready.0 done other))))
+may_end (Races ws ls) x status ready done (inl (same, is)) = alone x.end status done.ended is
+may_end (Races ws ls) x status ready done (inr (other, is)) = absurd (other done.replays)
 may_end (Sim ws ls w s p) x status ready done (inl (same, is)) = came x.end status w (move_spends w s x ready.0 done) is
 may_end (Sim ws ls w s p) x status ready done (inr (other, is)) = absurd (other done.replays)
 
@@ -201,6 +216,7 @@ several_of : (co : Command) (r : Record) → IsReady co → IsDoneBy co r → (x
 several_of (Run ws ls w p) r ready done x e = thread_spends w r ready.0 done x e
 several_of (Load tr w) r ready done x e = thread_spends w r ready.0 done x e
 several_of (Keep ws ls w) r ready done x e = thread_spends w r ready.0 done x e
+several_of (Races ws ls) r ready done x e = subst HasEnded e done.ended
 several_of (Sim ws ls w s p) r ready done x e = move_spends w s r ready.0 done x e
 
 pub several : (command : Option Command) (kept : Option Record) (status : ℕ) (n : Note) → IsStatus kept status n → IfSome command IsReady → IfSome kept (IsDoneAs command) → status ≡ 7 → HasSeveralWorkers command
@@ -219,6 +235,7 @@ may_want : (co : Command) (status : ℕ) → status ≡ 1 → MayEndWith (Some c
 may_want (Run ws ls w p) status is = inr (inr (inr (inr is)))
 may_want (Load tr w) status is = inr (inr (inr (inr is)))
 may_want (Keep ws ls w) status is = inr (inr (inr (inr is)))
+may_want (Races ws ls) status is = inr (inr is)
 may_want (Sim ws ls w s p) status is = inr (inr (inr (inr is)))
 
 -- running out of memory may end any command
@@ -263,6 +280,8 @@ misused (Some (Sim ws ls wk sc p)) kept status n left r w is cause run misfit no
     misused_of 2 ws kept status n left r w is cause misfit no_r (λ x e. let by = kept_run (Some (Sim ws ls wk sc p)) kept left run x e in run_fits 2 ws left x by.program by.words by.takes misfit)
 misused (Some (Keep ws ls wk)) kept status n left r w is cause run misfit no_r =
     misused_of 1 ws kept status n left r w is cause misfit no_r (λ x e. let by = kept_run (Some (Keep ws ls wk)) kept left run x e in run_fits 1 ws left x by.program by.words by.takes misfit)
+misused (Some (Races ws ls)) kept status n left r w is cause run misfit no_r =
+    misused_of 2 ws kept status n left r w is cause misfit no_r (λ x e. let by = kept_run (Some (Races ws ls)) kept left run x e in run_fits 2 ws left x by.program by.words by.takes misfit)
 misused (Some (Load tr wk)) kept status n left r w is cause run misfit no_r = absurd misfit
 
 -- a source that has a run is not refused
@@ -298,6 +317,8 @@ refuses (Some (Sim ws ls wk sc p)) kept status n left r w is cause run fault why
     refuses_of 2 ws kept status n left r w is cause fault why no_r (λ x e. let by = kept_run (Some (Sim ws ls wk sc p)) kept left run x e in run_accepted 2 left x fault by.program why)
 refuses (Some (Keep ws ls wk)) kept status n left r w is cause run fault why no_r =
     refuses_of 1 ws kept status n left r w is cause fault why no_r (λ x e. let by = kept_run (Some (Keep ws ls wk)) kept left run x e in run_accepted 1 left x fault by.program why)
+refuses (Some (Races ws ls)) kept status n left r w is cause run fault why no_r =
+    refuses_of 2 ws kept status n left r w is cause fault why no_r (λ x e. let by = kept_run (Some (Races ws ls)) kept left run x e in run_accepted 2 left x fault by.program why)
 refuses (Some (Load tr wk)) kept status n left r w is cause run fault why no_r = absurd why
 
 complete_of : (co : Command) (l : ℕ) (words : List ℤ) (kept : Option Record) (status : ℕ) (n : Note) (left : Option (List ℕ)) (r w : Type 0) → IsStatus kept status n → IsCauseOfRun l words n left r w → IsReady co → IfSome kept (IsDoneBy co)
@@ -326,6 +347,7 @@ complete None kept status n left r w is cause ready done accepted no_r no_w = of
 complete (Some (Run ws ls wk p)) kept status n left r w is cause ready done accepted no_r no_w = complete_of (Run ws ls wk p) 1 ws kept status n left r w is cause ready done accepted no_r no_w
 complete (Some (Sim ws ls wk sc p)) kept status n left r w is cause ready done accepted no_r no_w = complete_of (Sim ws ls wk sc p) 2 ws kept status n left r w is cause ready done accepted no_r no_w
 complete (Some (Keep ws ls wk)) kept status n left r w is cause ready done accepted no_r no_w = complete_of (Keep ws ls wk) 1 ws kept status n left r w is cause ready done accepted no_r no_w
+complete (Some (Races ws ls)) kept status n left r w is cause ready done accepted no_r no_w = complete_of (Races ws ls) 2 ws kept status n left r w is cause ready done accepted no_r no_w
 complete (Some (Load tr wk)) kept status n left r w is cause ready done accepted no_r no_w = load_complete (Load tr wk) kept status n w is cause ready done no_w
 
 -- where a run's status is 0 the machine finished, and the run with the same memory and outputs
@@ -352,12 +374,12 @@ pub written_at : (IsText : Record → List ℕ → Type 0) (r : Record) (status 
 written_at IsText r status old new before after told zero =
     (told.is_text (λ e. cc), subst (λ s. Writes (text_owed (Some r) s told.text) note.Nothing old new) zero told.written)
 
-pub finished : (command : Option Command) (kept : Option Record) (status : ℕ) (n : Note) (left old new : Option (List ℕ)) (before after : ℕ → Type 0) → IsStatus kept status n → IfSome kept (IsRunOf command left) → Tells (IsTextOf command left) kept status n old new before after → status ≡ 0
+pub finished : (command : Option Command) (kept : Option Record) (status : ℕ) (n : Note) (left old new : Option (List ℕ)) (before after : ℕ → Type 0) → IsStatus kept status n → IfSome kept (IsRunOf command left) → Tells (IsTextOfCommand command left) kept status n old new before after → status ≡ 0
     → IsSomeAnd kept (λ r. WritesEndOfOneMemory command left r old new)
 finished command None status note.Nothing left old new before after is run told zero = absurd is
 finished None (Some r) status note.Nothing left old new before after is run told zero = absurd run
 finished (Some co) (Some r) status note.Nothing left old new before after (inl (same, is)) run told zero =
-    let (is_text, written) = written_at (IsTextOf (Some co) left) r status old new before after told zero in
+    let (is_text, written) = written_at (IsTextOfCommand (Some co) left) r status old new before after told zero in
     of_replay co left r told.text old new (sym zero ∙ is) run.tree same is_text written
 finished (Some co) (Some r) status note.Nothing left old new before after (inr (other, is)) run told zero = cc
 finished command kept status note.Usage left old new before after (none, is) run told zero = cc

@@ -5,6 +5,7 @@ pub mod Taken
 pub mod Runs
 pub mod OverSource
 pub mod OneMemory
+pub mod RacesTold
 pub mod Written
 pub mod Spent
 pub mod Outcome

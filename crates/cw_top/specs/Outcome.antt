@@ -5,7 +5,7 @@ use Rattle.cw_record.specs.declared.record_end.RecordEnd.{RecordEnd}
 use Rattle.cw_record.specs.declared.record_end.RecordEnd.TheVariants.{Finished, Fault, Budget, Moves}
 use Rattle.cw_record.specs.Records.{IsReplayed}
 use Rattle.cw_words.specs.declared.command.Command.{Command}
-use Rattle.cw_words.specs.declared.command.Command.TheVariants.{Run, Sim, Load, Keep}
+use Rattle.cw_words.specs.declared.command.Command.TheVariants.{Run, Sim, Load, Keep, Races}
 use Rattle.cw_words.specs.Words.{words_of}
 use Rattle.cw_top.specs.declared.outcome.Note.{Note}
 use Rattle.cw_top.specs.declared.outcome.Note.TheVariants as note
@@ -105,4 +105,5 @@ MayEndWith None status = (status ≡ 2) ⊎ (status ≡ 1)
 MayEndWith (Some (Run words limits workers report)) status = MayEndOnThreads workers status
 MayEndWith (Some (Load transfers workers)) status = MayEndOnThreads workers status
 MayEndWith (Some (Keep words limits workers)) status = MayEndOnThreads workers status
+MayEndWith (Some (Races words limits)) status = (status ≡ 0) ⊎ (status ≡ 6) ⊎ (status ≡ 1)
 MayEndWith (Some (Sim words limits workers schedule report)) status = (status ≡ 0) ⊎ (status ≡ 6) ⊎ ((status ≡ 7) × (1 < workers)) ⊎ (status ≡ 9) ⊎ (status ≡ 1)

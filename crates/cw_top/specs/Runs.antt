@@ -18,7 +18,7 @@ use Rattle.cw_sim.specs.Turns.{ListsWorkers}
 use Rattle.cw_sim.specs.OneWorker.{IsUnrefused}
 use Rattle.cw_pool.specs.Recorded.{IsOfBoard, IsOfOneWorker}
 use Rattle.cw_words.specs.declared.command.Command.{Command}
-use Rattle.cw_words.specs.declared.command.Command.TheVariants.{Run, Sim, Load, Keep}
+use Rattle.cw_words.specs.declared.command.Command.TheVariants.{Run, Sim, Load, Keep, Races}
 use Rattle.cw_gen.specs.Load.{load_tree}
 use Rattle.cw_words.specs.Words.{limits_of, most_transfers, words_of}
 use Rattle.cw_top.specs.Refusals.{Spells, newest_language}
@@ -32,6 +32,7 @@ IsReady (Run words limits workers report) = (0 < workers) × (0 < limits.strands
 IsReady (Sim words limits workers schedule report) = (0 < workers) × ListsWorkers schedule workers × (0 < limits.strands)
 IsReady (Load transfers workers) = (0 < workers) × (1 ≤ transfers) × (transfers ≤ most_transfers)
 IsReady (Keep words limits workers) = (0 < workers) × (0 < limits.strands)
+IsReady (Races words limits) = Unit {0}
 
 -- the command has more than one worker
 abbrev pub HasSeveralWorkers : Option Command → Type 0
@@ -60,9 +61,10 @@ abbrev pub IsItsProgram : Command → (left : Option (List ℕ)) → Program →
 IsItsProgram (Load transfers workers) left p = IsProgramOf (load_tree transfers) p
 IsItsProgram c left p = IfSome left (λ bytes. Spells (newest_language c) bytes p)
 
--- only a simulation gives up blocks
+-- running threads give up no block yet
 abbrev pub MayCancel : Command → Program → Type 0
 MayCancel (Sim words limits workers schedule report) p = Unit {0}
+MayCancel (Races words limits) p = Unit {0}
 MayCancel c p = cancels p.code ≡ false
 
 -- A run of this command: of its program, which takes its words, with its words and limits. It has its outputs, and its tree is
@@ -99,12 +101,13 @@ pub record IsOfMoves (workers : ℕ) (schedule : Schedule) (r : Record) : Type 0
   pub one_worker : workers ≡ 1 → IsUnrefused r
   pub depth_first : workers ≡ 1 → HasEnded r.end → IsDepthFirst r
 
--- How a command's run is done: by its number of threads, or by the moves of its virtual workers.
+-- How a command's run is done: by its number of threads, by the moves of its virtual workers, or depth first.
 abbrev pub IsDoneBy : Command → Record → Type 0
 IsDoneBy (Run words limits workers report) r = IsOfThreads workers r
 IsDoneBy (Sim words limits workers schedule report) r = IsOfMoves workers schedule r
 IsDoneBy (Load transfers workers) r = IsOfThreads workers r
 IsDoneBy (Keep words limits workers) r = IsOfThreads workers r
+IsDoneBy (Races words limits) r = IsOfOneWorker r
 
 abbrev pub IsDoneAs : Option Command → Record → Type 0
 IsDoneAs command r = IsSomeAnd command (λ c. IsDoneBy c r)

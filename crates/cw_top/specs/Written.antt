@@ -1,5 +1,5 @@
 -- What was written: the text that a command owes for its run. There is none if the run disagrees with its replay.
-use Rattle.std.specs.Prelude.{◌≡◌, ◌≢◌, ◌==◌, ℕ, ℤ, pos, ◌+ℤ◌, List, [], ◌∷◌, ◌++◌, Bool, true, false, codes, length, Option, Some, None, IfSome, IsSomeAnd, if◌then◌else◌}
+use Rattle.std.specs.Prelude.{◌≡◌, ◌≢◌, ◌==◌, ℕ, ℤ, pos, ◌+ℤ◌, List, [], ◌∷◌, ◌++◌, codes, length, Option, Some, None, IfSome, IsSomeAnd, if◌then◌else◌}
 use Rattle.std.specs.Fmt.{decimal, signed_decimal}
 use Rattle.cw_io.specs.Outside.{Appends, AppendsFront, KeepsTelling, TellsOn}
 use Rattle.cw_text.specs.Syntax.{Source}
@@ -18,20 +18,28 @@ use Rattle.cw_report.specs.Report.{report_text}
 use Rattle.cw_sheet.specs.Contents.{Contents}
 use Rattle.cw_sheet.specs.SheetText.{sheet_text}
 use Rattle.cw_words.specs.declared.command.Command.{Command}
-use Rattle.cw_words.specs.declared.command.Command.TheVariants.{Run, Sim, Load, Keep}
+use Rattle.cw_words.specs.declared.command.Command.TheVariants.{Run, Sim, Load, Keep, Races}
+use Rattle.cw_words.specs.declared.command.ReportVersion.{ReportVersion}
+use Rattle.cw_words.specs.declared.command.ReportVersion.TheVariants.{First, Second}
 use Rattle.cw_top.specs.declared.telling.Telling.{Telling}
-use Rattle.cw_top.specs.declared.telling.Telling.TheVariants.{Results, Summary, Sheet}
+use Rattle.cw_top.specs.declared.telling.Telling.TheVariants.{Results, Summary, Sheet, Races as RacesIn}
 use Rattle.cw_top.specs.declared.outcome.Note.{Note}
 use Rattle.cw_top.specs.declared.outcome.Note.TheVariants as note
 use Rattle.cw_top.specs.Runs.{IsItsSource}
+use Rattle.cw_top.specs.RacesTold.{IsRacesText}
 
--- the report on a run, if it is asked for
-abbrev pub report_if : Bool → Record → List ℕ
-report_if true r = report_text r
-report_if false r = []
+-- the number of a version
+abbrev pub version_number : ReportVersion → ℕ
+version_number First = 1
+version_number Second = 2
+
+-- the report on a run, if one is asked for
+abbrev pub report_if : Option ReportVersion → Record → List ℕ
+report_if None r = []
+report_if (Some version) r = report_text r (version_number version)
 
 -- the text of a run: its result, followed by the report
-abbrev pub text_by : (report : Bool) → Record → List ℕ
+abbrev pub text_by : (report : Option ReportVersion) → Record → List ℕ
 text_by report r = run_text r ++ report_if report r
 
 -- the sum of integers, of any size
@@ -61,12 +69,14 @@ telling_of (Run words limits workers report) = Results report
 telling_of (Sim words limits workers schedule report) = Results report
 telling_of (Load transfers workers) = Summary transfers
 telling_of (Keep words limits workers) = Sheet
+telling_of (Races words limits) = RacesIn
 
 -- the text of a run of this syntax tree
 abbrev pub IsTextIn : Telling → Source → Record → List ℕ → Type 0
 IsTextIn (Results report) source r text = text ≡ text_by report r
 IsTextIn (Summary n) source r text = text ≡ load_text n r
 IsTextIn Sheet source r text = text ≡ sheet_text (sheet_of_run source r)
+IsTextIn RacesIn source r text = IsRacesText r.program.cells r.tree r.end text
 
 -- The text that a command writes for its run. The run is one of the command's syntax tree.
 pub record IsTextBy (c : Command) (left : Option (List ℕ)) (r : Record) (text : List ℕ) : Type 0 where
@@ -75,8 +85,8 @@ pub record IsTextBy (c : Command) (left : Option (List ℕ)) (r : Record) (text 
   pub compiled : IsProgramOf source.items r.program
   pub told : IsTextIn (telling_of c) source r text
 
-abbrev pub IsTextOf : Option Command → (left : Option (List ℕ)) → Record → List ℕ → Type 0
-IsTextOf command left r text = IsSomeAnd command (λ c. IsTextBy c left r text)
+abbrev pub IsTextOfCommand : Option Command → (left : Option (List ℕ)) → Record → List ℕ → Type 0
+IsTextOfCommand command left r text = IsSomeAnd command (λ c. IsTextBy c left r text)
 
 -- The text is owed for the run that is kept. None is owed without a run, and none with status 8.
 abbrev pub text_owed : Option Record → (status : ℕ) → (text : List ℕ) → Option (List ℕ)
@@ -113,5 +123,5 @@ pub record WritesEndOfOneMemory (command : Option Command) (left : Option (List 
   pub outputs : List ℤ
   pub finishes : end_of_one_memory r ≡ last.Finished memory outputs
   pub text : List ℕ
-  pub is_text : IsTextOf command left (record r { end = Finished memory outputs }) text
+  pub is_text : IsTextOfCommand command left (record r { end = Finished memory outputs }) text
   pub written : Appends old new text

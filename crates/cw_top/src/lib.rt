@@ -9,6 +9,7 @@
 
 mod loading;
 mod outcome;
+mod racing;
 mod reading;
 mod reasons;
 mod running;

@@ -6,6 +6,7 @@ ghost use Rattle.cw_strand.specs.Programs.{IsCompiled, IsProgramOf};
 ghost use Rattle.cw_tree.specs.Walks.{IsNumbered};
 ghost use Rattle.cw_job.specs.Jobs.{TakesWords};
 ghost use Rattle.cw_record.specs.Records.{HasItsOutputs, IsNumberedDepthFirst};
+ghost use Rattle.cw_pool.specs.Recorded.{IsOfOneWorker};
 ghost use Rattle.cw_top.specs.declared.reasons.NoRun.TheVariants.{Misfit};
 ghost use Rattle.cw_top.specs.Outcome.{HasCause};
 ghost use Rattle.cw_top.specs.Reasons.{note_of};
@@ -22,7 +23,7 @@ use cw_code::{Limits, Program, default_limits};
 use cw_io::{Gate, Source};
 use cw_job::takes_words;
 use cw_pool::run;
-use cw_record::Record;
+use cw_record::{Record, depth_first};
 use cw_sim::simulate;
 use cw_text::Ast;
 use cw_words::Command;
@@ -42,7 +43,7 @@ fn newest(command: &Command) -> u32
     ensures { result ≡ newest_language command.now }
 {
     match command {
-        Command::Sim { .. } => 2,
+        Command::Sim { .. } | Command::Races { .. } => 2,
         Command::Run { .. } | Command::Load { .. } | Command::Keep { .. } => 1,
     }
 }
@@ -55,7 +56,7 @@ pub fn has_several_threads(command: &Command) -> bool
         Command::Run { workers, .. }
         | Command::Load { workers, .. }
         | Command::Keep { workers, .. } => 1 < *workers,
-        Command::Sim { .. } => false,
+        Command::Sim { .. } | Command::Races { .. } => false,
     }
 }
 
@@ -83,7 +84,26 @@ fn run_on_threads<R: Threads + Wait + Sync, G: Gate>(
     run(rt, alloc, program, words, workers, limits, gate)
 }
 
-// Runs a program as a command says: on threads, or by the moves of virtual workers.
+// Runs a program by one worker, who gives up blocks, too.
+fn run_depth_first(
+    alloc: Global,
+    program: Program,
+    words: Seq<i64>,
+    limits: Limits,
+) -> Result<Record, OutOfMemory>
+    requires compiled { IsCompiled program }
+    requires takes { TakesWords program (length words) }
+    ensures program { IfOk result (λ r. r.program ≡ program) }
+    ensures words { IfOk result (λ r. r.words ≡ words) }
+    ensures limits { IfOk result (λ r. r.limits ≡ limits) }
+    ensures outputs { IfOk result (λ r. HasItsOutputs r) }
+    ensures numbered { IfOk result (λ r. IsNumberedDepthFirst r.tree) }
+    ensures done { IfOk result IsOfOneWorker }
+{
+    depth_first(alloc, program, words, limits)
+}
+
+// Runs a program as a command says: on threads, by the moves of virtual workers, or depth first.
 fn run_program<R: Threads + Wait + Sync, G: Gate>(
     rt: &R,
     alloc: Global,
@@ -125,6 +145,7 @@ fn run_program<R: Threads + Wait + Sync, G: Gate>(
             limits,
             workers,
         } => run_on_threads(rt, alloc, program, words, workers, limits, gate),
+        Command::Races { words, limits } => run_depth_first(alloc, program, words, limits),
     }
 }
 
@@ -174,9 +195,8 @@ fn program_by<S: Source>(
 {
     match command {
         Command::Load { transfers, .. } => Ok(compiled_load(alloc, *transfers)?),
-        Command::Run { .. } | Command::Sim { .. } | Command::Keep { .. } => {
-            program_from(alloc, source, newest(command))
-        }
+        Command::Run { .. } | Command::Sim { .. } | Command::Keep { .. } | Command::Races { .. } =>
+            program_from(alloc, source, newest(command)),
     }
 }
 

@@ -4,14 +4,18 @@ ghost use Rattle.cw_text.specs.Syntax.{source_of};
 ghost use Rattle.cw_tree.specs.Nodes.{is_strand};
 ghost use Rattle.cw_job.specs.Jobs.{TakesWords};
 ghost use Rattle.cw_record.specs.Order.{ending_strand};
-ghost use Rattle.cw_record.specs.Records.{IsReplayed};
+ghost use Rattle.cw_record.specs.Records.{IsNumberedDepthFirst, IsReplayed};
+ghost use Rattle.cw_pool.specs.Recorded.{IsOfOneWorker};
+ghost use Rattle.cw_report.specs.Report.{IsVersion};
 ghost use Rattle.cw_sheet.specs.SheetText.{sheet_text};
 ghost use Rattle.cw_top.specs.declared.reasons.NoRun.TheVariants.{Misfit};
+ghost use Rattle.cw_top.specs.declared.telling.Telling.TheVariants.{Races};
 ghost use Rattle.cw_top.specs.Outcome.{IsCauseOfTelling, IsStatus, status_of_end};
 ghost use Rattle.cw_top.specs.Reasons.{note_of};
-ghost use Rattle.cw_top.specs.Written.{IsTextIn, StillTells, Tells, Writes, load_text, sheet_of_run, text_by, text_owed};
+ghost use Rattle.cw_top.specs.Written.{IsTextIn, StillTells, Tells, Writes, load_text, sheet_of_run, text_by, text_owed, version_number};
 
 use crate::loading::summary;
+use crate::racing::races_of_run;
 use crate::reasons::{NoRun, Refusal, Stop};
 use crate::running::Ran;
 use crate::{Note, Reply};
@@ -20,17 +24,20 @@ use cw_io::{Sink, write_all};
 use cw_record::{Checked, Record, RecordEnd, check};
 use cw_report::{report_text, result_text};
 use cw_sheet::{Sheet, sheet_text};
+use cw_words::ReportVersion;
 use std::alloc::Global;
 
 /// What a command writes of its run.
 #[derive(Clone, Copy)]
 pub enum Telling {
     /// Its result, followed by the report if it is asked for.
-    Results { report: bool },
+    Results { report: Option<ReportVersion> },
     /// The summary of a load of `transfers` transfers.
     Summary { transfers: u32 },
     /// Its record sheet.
     Sheet,
+    /// The races of a run of one worker.
+    Races,
 }
 
 // A run, and the text that is owed for it.
@@ -51,14 +58,29 @@ fn status_of_end(end: &RecordEnd) -> u8
     }
 }
 
+fn version_number(version: ReportVersion) -> u32
+    ensures number { result ≡ version_number version }
+    ensures version { IsVersion result }
+{
+    match version {
+        ReportVersion::First => 1,
+        ReportVersion::Second => 2,
+    }
+}
+
 // Returns the text of a run: its result, followed by the report if it is asked for.
-fn text_by(alloc: Global, run: &Record, report: bool) -> Result<Vec<u8>, OutOfMemory>
+fn text_by(
+    alloc: Global,
+    run: &Record,
+    report: Option<ReportVersion>,
+) -> Result<Vec<u8>, OutOfMemory>
     requires { IsTrue (is_strand run.now.tree (ending_strand run.now.end)) }
     ensures { IfOk result (λ text. text.items ≡ text_by report run.now) }
 {
     let mut text = result_text(alloc, run)?;
-    if report {
-        text.extend_from_slice(report_text(alloc, run)?.as_slice())?;
+    if let Some(version) = report {
+        let behind = report_text(alloc, run, version_number(version))?;
+        text.extend_from_slice(behind.as_slice())?;
     }
     Ok(text)
 }
@@ -114,7 +136,9 @@ fn with_sheet(alloc: Global, ran: Ran) -> Result<Told, OutOfMemory>
 
 // Makes the text of a run, as `telling` says.
 fn with_text(alloc: Global, ran: Ran, telling: Telling) -> Result<Told, OutOfMemory>
-    requires { IsTrue (is_strand ran.run.tree (ending_strand ran.run.end)) }
+    requires strand { IsTrue (is_strand ran.run.tree (ending_strand ran.run.end)) }
+    requires one { telling ≡ Races → IsOfOneWorker ran.run }
+    requires numbered { IsNumberedDepthFirst ran.run.tree }
     ensures run { IfOk result (λ told. told.run ≡ ran.run) }
     ensures text { IfOk result (λ told. IsTextIn telling (source_of ran.ast) ran.run told.text.items) }
 {
@@ -128,6 +152,10 @@ fn with_text(alloc: Global, ran: Ran, telling: Telling) -> Result<Told, OutOfMem
             Ok(Told { run: ran.run, text })
         }
         Telling::Sheet => with_sheet(alloc, ran),
+        Telling::Races => {
+            let text = races_of_run(alloc, &ran.run)?;
+            Ok(Told { run: ran.run, text })
+        }
     }
 }
 
@@ -179,7 +207,9 @@ fn write_reply<K: Sink>(told: Told, sink: &mut K) -> Reply
 
 // Makes the text of a run that replays, writes it, and returns the reply.
 fn tell_reply<K: Sink>(alloc: Global, ran: Ran, telling: Telling, sink: &mut K) -> Reply
-    requires { IsReplayed ran.run }
+    requires replays { IsReplayed ran.run }
+    requires one { telling ≡ Races → IsOfOneWorker ran.run }
+    requires numbered { IsNumberedDepthFirst ran.run.tree }
     ensures later { K.faults sink.old ≤ K.faults sink.new }
     ensures kept { IfSome result.kept (λ r. r ≡ ran.run) }
     ensures status { IsStatus result.kept result.status result.note }
@@ -217,6 +247,8 @@ pub fn reply_to<K: Sink>(
 ) -> Reply
     requires takes { TakesWords ran.run.program (length ran.run.words) }
     requires sure { is_unsure ≡ false → IsReplayed ran.run }
+    requires one { telling ≡ Races → IsOfOneWorker ran.run }
+    requires numbered { IsNumberedDepthFirst ran.run.tree }
     ensures later { K.faults sink.old ≤ K.faults sink.new }
     ensures kept { IfSome result.kept (λ r. r ≡ ran.run) }
     ensures status { IsStatus result.kept result.status result.note }

@@ -9,7 +9,7 @@ ghost use Rattle.cw_top.specs.OverSource.{IsRunOfSource};
 ghost use Rattle.cw_top.specs.Runs.{HasSeveralThreads, HasSeveralWorkers, IsDoneAs, IsDoneBy, IsReady, IsRunOf};
 ghost use Rattle.cw_top.specs.Spent.{HasSpentMoves, IsSpentBy, IsSpentOn};
 ghost use Rattle.cw_top.specs.Taken.{Accepts, IsRefusedFor, HasRead, RisesAtMost, TakesAtMost, most_ends, most_read};
-ghost use Rattle.cw_top.specs.Written.{IsTextBy, IsTextOf, Tells, WritesEndOfOneMemory, telling_of};
+ghost use Rattle.cw_top.specs.Written.{IsTextBy, IsTextOfCommand, Tells, WritesEndOfOneMemory, telling_of};
 ghost use Rattle.cw_words.specs.Words.{command_in};
 
 use crate::reasons::NoRun;
@@ -34,6 +34,7 @@ fn telling_of(command: &Command) -> Telling
             transfers: *transfers,
         },
         Command::Keep { .. } => Telling::Sheet,
+        Command::Races { .. } => Telling::Races,
     }
 }
 
@@ -87,7 +88,7 @@ fn answer<R: Threads + Wait + Sync, S: Source, K: Sink, G: Gate>(
     ensures once { RisesAtMost (most_ends command) (S.ends source.old) (S.ends source.new) }
     ensures run { IfSome result.kept (IsRunOf command (S.left source.old)) }
     ensures done { IfSome result.kept (IsDoneAs command) }
-    ensures written { Tells (IsTextOf command (S.left source.old)) result.kept result.status result.note (K.written sink.old) (K.written sink.new) (K.tells_for sink.old) (K.tells_for sink.new) }
+    ensures written { Tells (IsTextOfCommand command (S.left source.old)) result.kept result.status result.note (K.written sink.old) (K.written sink.new) (K.tells_for sink.old) (K.tells_for sink.new) }
 {
     match command {
         None => Reply {
@@ -101,7 +102,7 @@ fn answer<R: Threads + Wait + Sync, S: Source, K: Sink, G: Gate>(
 
 /// Does all that the program does. `words` are the command's words without the program's name. `run` and `sim` read a program from
 /// the source, run it with the words of main, and write its result (`result_text`) to the sink; with `--report 1` the report on it
-/// follows (`report_text`). `run` has as many workers as `--workers` says, or four without that option. Each is on a thread of its
+/// follows (`report_text`), and with `--report 2` its second version. `run` has as many workers as `--workers` says, or four without that option. Each is on a thread of its
 /// own if one can be started; a single worker runs depth first. `sim` does the moves of that many virtual workers. Both have the
 /// options `--fuel`, `--size`, `--aborts` and `--strands`; `sim` also has `--moves`, and `--schedule` or `--seed`. `load N` reads
 /// nothing. It runs the program of N transfers (`load_program`), from 1 to 20,000, as `run` does with the default limits, and
@@ -192,7 +193,7 @@ pub fn cwstm<R: Threads + Wait + Sync, S: Source, K: Sink, G: Gate>(
 
     // The owed text was written, or a front of it if a write failed; nothing, if none is owed. Unless a write failed, a sink that goes
     // on telling for at least as many bytes as the text has still tells, and goes on for the rest.
-    ensures written { Tells (IsTextOf (command_in words.now) (S.left source.old)) result.kept result.status result.note (K.written sink.old) (K.written sink.new) (K.tells_for sink.old) (K.tells_for sink.new) }
+    ensures written { Tells (IsTextOfCommand (command_in words.now) (S.left source.old)) result.kept result.status result.note (K.written sink.old) (K.written sink.new) (K.tells_for sink.old) (K.tells_for sink.new) }
 
     // Counts of faults never fall.
     ensures read_later { S.faults source.old ≤ S.faults source.new }

@@ -8,10 +8,11 @@ use Rattle.clap.specs.Words.{Text}
 use Rattle.cw_code.specs.declared.Limits.{Limits}
 use Rattle.cw_io.specs.declared.schedule.Schedule.{Schedule}
 use Rattle.cw_words.specs.declared.command.Command.{Command}
-use Rattle.cw_words.specs.Asked.{is_dash, keep_from, load_from, run_from, sim_from}
+use Rattle.cw_words.specs.declared.command.ReportVersion.{ReportVersion}
+use Rattle.cw_words.specs.Asked.{is_dash, keep_from, load_from, races_from, run_from, sim_from}
 use Rattle.cw_words.specs.Options.{Given, are_known, given, number_given, number_within, sole_word}
 use Rattle.cw_code.specs.Ranges.{workers_option}
-use Rattle.cw_words.specs.Words.{command_of, keep_given, keep_options, limits_given, load_given, load_options, most_transfers, report_given, run_given, run_options, schedule_given, sim_given, sim_options}
+use Rattle.cw_words.specs.Words.{command_of, keep_given, keep_options, limits_given, load_given, load_options, most_transfers, races_given, races_options, report_given, run_given, run_options, schedule_given, sim_given, sim_options}
 use Rattle.cw_words.proofs.Whole.{HasDash, dash_given, dash_integers, or_cases}
 
 no_run : (g : Given) → list_any is_dash g.words ≡ true → run_given g ≡ None
@@ -19,7 +20,7 @@ no_run g d =
     ap (λ n. if are_known run_options g.options then run_from (limits_given g.options) (report_given g.options) (number_given workers_option g.options) n else None) (dash_integers g.words d)
     ∙ go (are_known run_options g.options) (limits_given g.options) (report_given g.options) (number_given workers_option g.options)
   where
-    go : (k : Bool) (l : Option Limits) (r : Option Bool) (w : Option ℕ) → (if k then run_from l r w None else None) ≡ None
+    go : (k : Bool) (l : Option Limits) (r : Option (Option ReportVersion)) (w : Option ℕ) → (if k then run_from l r w None else None) ≡ None
     go false l r w = refl
     go true None r w = refl
     go true (Some l) None w = refl
@@ -31,11 +32,11 @@ no_sim g d =
     ap (λ n. if are_known sim_options g.options then sim_from (limits_given g.options) (report_given g.options) (number_given workers_option g.options) (λ w. schedule_given w g.options) n else None) (dash_integers g.words d)
     ∙ go (are_known sim_options g.options) (limits_given g.options) (report_given g.options) (number_given workers_option g.options)
   where
-    turns : (s : Option Schedule) (l : Limits) (r : Bool) (w : ℕ) → sim_from (Some l) (Some r) (Some w) (λ v. s) None ≡ None
+    turns : (s : Option Schedule) (l : Limits) (r : Option ReportVersion) (w : ℕ) → sim_from (Some l) (Some r) (Some w) (λ v. s) None ≡ None
     turns None l r w = refl
     turns (Some s) l r w = refl
 
-    go : (k : Bool) (l : Option Limits) (r : Option Bool) (w : Option ℕ) → (if k then sim_from l r w (λ v. schedule_given v g.options) None else None) ≡ None
+    go : (k : Bool) (l : Option Limits) (r : Option (Option ReportVersion)) (w : Option ℕ) → (if k then sim_from l r w (λ v. schedule_given v g.options) None else None) ≡ None
     go false l r w = refl
     go true None r w = refl
     go true (Some l) None w = refl
@@ -71,6 +72,16 @@ no_keep g d =
     go true (Some l) None = refl
     go true (Some l) (Some w) = refl
 
+no_races : (g : Given) → list_any is_dash g.words ≡ true → races_given g ≡ None
+no_races g d =
+    ap (λ n. if are_known races_options g.options then races_from (limits_given g.options) n else None) (dash_integers g.words d)
+    ∙ go (are_known races_options g.options) (limits_given g.options)
+  where
+    go : (k : Bool) (l : Option Limits) → (if k then races_from l None else None) ≡ None
+    go false l = refl
+    go true None = refl
+    go true (Some l) = refl
+
 none_of : (make : Given → Option Command) → ((g : Given) → list_any is_dash g.words ≡ true → make g ≡ None) → (o : Option Given) → HasDash o → option_and_then make o ≡ None
 none_of make never None h = refl
 none_of make never (Some g) h = never g h
@@ -79,13 +90,14 @@ pub dash_refused : (ws : List Text) → list_any is_dash ws ≡ true → command
 dash_refused [] h = refl
 dash_refused (w ∷ ws) h = elim (or_cases (is_dash w) (list_any is_dash ws) h) [
   | inl d ↦ ap (λ x. command_of (x ∷ ws)) ((bytes_eq-Decides w (45 ∷ [])).0 d)
-  | inr d ↦ go (bytes_eq w (codes "run")) (bytes_eq w (codes "sim")) (bytes_eq w (codes "load")) (bytes_eq w (codes "keep")) (dash_given ws None d)
+  | inr d ↦ go (bytes_eq w (codes "run")) (bytes_eq w (codes "sim")) (bytes_eq w (codes "load")) (bytes_eq w (codes "keep")) (bytes_eq w (codes "races")) (dash_given ws None d)
 ]
   where
-    go : (a b c e : Bool) → HasDash (given ws)
-        → (if a then option_and_then run_given (given ws) else if b then option_and_then sim_given (given ws) else if c then option_and_then load_given (given ws) else if e then option_and_then keep_given (given ws) else None) ≡ None
-    go true b c e h = none_of run_given no_run (given ws) h
-    go false true c e h = none_of sim_given no_sim (given ws) h
-    go false false true e h = none_of load_given no_load (given ws) h
-    go false false false true h = none_of keep_given no_keep (given ws) h
-    go false false false false h = refl
+    go : (a b c e f : Bool) → HasDash (given ws)
+        → (if a then option_and_then run_given (given ws) else if b then option_and_then sim_given (given ws) else if c then option_and_then load_given (given ws) else if e then option_and_then keep_given (given ws) else if f then option_and_then races_given (given ws) else None) ≡ None
+    go true b c e f h = none_of run_given no_run (given ws) h
+    go false true c e f h = none_of sim_given no_sim (given ws) h
+    go false false true e f h = none_of load_given no_load (given ws) h
+    go false false false true f h = none_of keep_given no_keep (given ws) h
+    go false false false false true h = none_of races_given no_races (given ws) h
+    go false false false false false h = refl

@@ -13,20 +13,21 @@ use Rattle.cw_io.specs.declared.schedule.Schedule.{Schedule}
 use Rattle.cw_code.specs.declared.Limits.{Limits}
 use Rattle.cw_code.specs.Ranges.{aborts_option, fuel_option, moves_option, size_option, strands_option, workers_option}
 use Rattle.cw_words.specs.declared.command.Command.{Command}
+use Rattle.cw_words.specs.declared.command.ReportVersion.{ReportVersion}
 use Rattle.std.proofs.Common.{drop}
 use Rattle.std.specs.List.{after_first, before_first}
 use Rattle.cw_words.specs.Options.{given_on, has_hyphen, integer_of, is_equals, is_option, only_words, with_option, with_word}
 use Rattle.cw_words.proofs.Fits.{or_right}
 use Rattle.cw_words.specs.Options.{Given, GivenOption, are_known, given, integers_of, number_in, option_value}
 use Rattle.cw_words.specs.Words as words
-use Rattle.cw_words.specs.Words.{command_of, keep_given, keep_options, load_given, load_options, run_given, run_options, sim_given, sim_options}
-use Rattle.cw_words.specs.Asked.{Values, is_dash, keep_at, keep_from, limits_from, load_asked, load_from, run_at, run_from, sim_at, sim_from, transfers_at, vals}
+use Rattle.cw_words.specs.Words.{command_of, keep_given, keep_options, load_given, load_options, races_given, races_options, run_given, run_options, sim_given, sim_options}
+use Rattle.cw_words.specs.Asked.{Values, is_dash, keep_at, keep_from, limits_from, load_asked, load_from, races_at, races_from, run_at, run_from, sim_at, sim_from, transfers_at, vals}
 use Rattle.cw_words.specs.Shapes.{fine, fits, has_no_odd, is_known, judged, leaf_rules}
 use Rattle.cw_words.proofs.Fits.{fits_known, fits_one, one_fits}
 use Rattle.std.proofs.Common.{inl, inr, ◌⊎◌}
 use Rattle.std.specs.List.{list_any}
 use Rattle.cw_words.specs.Shapes.{cli, is_odd}
-use Rattle.cw_words.proofs.Leaf.{Enters, keep_fault, keep_rows, other_first, leaf_judged, leaf_seen, load_fault, load_rows, run_fault, run_rows, sim_fault, sim_rows}
+use Rattle.cw_words.proofs.Leaf.{Enters, keep_fault, keep_rows, other_first, leaf_judged, leaf_seen, load_fault, load_rows, races_fault, races_rows, run_fault, run_rows, sim_fault, sim_rows}
 use Rattle.cw_words.proofs.Rows.{Sees}
 
 -- the values of the options by what was given
@@ -53,6 +54,9 @@ load_same g val k e = λ i. if k i then load_from (option_and_then (number_in wo
 pub keep_same : (g : Given) (val : Values) → are_known keep_options g.options ≡ true → IsValued g.options val → keep_given g ≡ keep_at val g.words
 keep_same g val k e =
     λ i. if k i then keep_from (limits_same g.options val e i) (option_and_then (number_in workers_option) (e (codes "workers") refl i)) (integers_of g.words) else None
+
+pub races_same : (g : Given) (val : Values) → are_known races_options g.options ≡ true → IsValued g.options val → races_given g ≡ races_at val g.words
+races_same g val k e = λ i. if k i then races_from (limits_same g.options val e i) (integers_of g.words) else None
 
 first_vals : (j : Text) (rows : List Row) → slice_get (vals j rows) 0 ≡ first_of j rows
 first_vals j rows = go (find (λ r. bytes_eq r.id j) rows)
@@ -138,7 +142,7 @@ run_report : (l : Option Limits) (w : Option ℕ) (n : Option (List ℤ)) → ru
 run_report None w n = refl
 run_report (Some l) w n = refl
 
-run_workers : (l : Option Limits) (r : Option Bool) (n : Option (List ℤ)) → run_from l r None n ≡ None
+run_workers : (l : Option Limits) (r : Option (Option ReportVersion)) (n : Option (List ℤ)) → run_from l r None n ≡ None
 run_workers None r n = refl
 run_workers (Some l) None n = refl
 run_workers (Some l) (Some r) n = refl
@@ -210,6 +214,31 @@ keep_missing g h =
     go true (Some f) (Some s) (Some a) (Some st) m None h = keep_workers (limits_from (option_and_then (number_in fuel_option) (Some f)) (option_and_then (number_in size_option) (Some s)) (option_and_then (number_in aborts_option) (Some a)) (option_and_then (number_in strands_option) (Some st)) (option_and_then (number_in moves_option) m)) (integers_of g.words)
     go true (Some f) (Some s) (Some a) (Some st) m (Some w) h = absurd (true≢false h)
 
+abbrev races_parts : Bool → (f s a st m : Twice) → List Text → Option Command
+races_parts k f s a st m ws = if k then races_from (limits_from (option_and_then (number_in fuel_option) f) (option_and_then (number_in size_option) s) (option_and_then (number_in aborts_option) a) (option_and_then (number_in strands_option) st) (option_and_then (number_in moves_option) m)) (integers_of ws) else None
+
+pub races_unknown : (g : Given) → are_known races_options g.options ≡ false → races_given g ≡ None
+races_unknown g k =
+    let v = λ (n : Text). option_value n g.options in
+    ap (λ t. races_parts t (v (codes "fuel")) (v (codes "size")) (v (codes "aborts")) (v (codes "strands")) (v (codes "moves")) g.words) k
+
+no_limits : (a b c d m : Twice) → (is_some a && is_some b) ≡ false
+    → limits_from (option_and_then (number_in fuel_option) a) (option_and_then (number_in size_option) b) (option_and_then (number_in aborts_option) c) (option_and_then (number_in strands_option) d) (option_and_then (number_in moves_option) m) ≡ None
+no_limits None b c d m h = refl
+no_limits (Some a) None c d m h = limits_none (Some a) None c d m refl
+no_limits (Some a) (Some b) c d m h = absurd (true≢false h)
+
+pub races_missing : (g : Given) → list_all (λ n. is_some (option_value n g.options)) races_options ≡ false → races_given g ≡ None
+races_missing g h =
+    let v = λ (n : Text). option_value n g.options in
+    go (are_known races_options g.options) (v (codes "fuel")) (v (codes "size")) (v (codes "aborts")) (v (codes "strands")) (v (codes "moves")) h
+  where
+    go : (k : Bool) (f s a st m : Twice) → (is_some f && (is_some s && true)) ≡ false → races_parts k f s a st m g.words ≡ None
+    go false f s a st m h = refl
+    go true None s a st m h = ap (λ l. races_from l (integers_of g.words)) (no_limits None s a st m refl)
+    go true (Some f) None a st m h = ap (λ l. races_from l (integers_of g.words)) (no_limits (Some f) None a st m refl)
+    go true (Some f) (Some s) a st m h = absurd (true≢false h)
+
 limits_moves : (a b c d : Option ℕ) → limits_from a b c d None ≡ None
 limits_moves None b c d = refl
 limits_moves (Some a) None c d = refl
@@ -221,12 +250,12 @@ sim_report : (l : Option Limits) (w : Option ℕ) (s : ℕ → Option Schedule) 
 sim_report None w s n = refl
 sim_report (Some l) w s n = refl
 
-sim_workers : (l : Option Limits) (r : Option Bool) (s : ℕ → Option Schedule) (n : Option (List ℤ)) → sim_from l r None s n ≡ None
+sim_workers : (l : Option Limits) (r : Option (Option ReportVersion)) (s : ℕ → Option Schedule) (n : Option (List ℤ)) → sim_from l r None s n ≡ None
 sim_workers None r s n = refl
 sim_workers (Some l) None s n = refl
 sim_workers (Some l) (Some r) s n = refl
 
-sim_schedule : (l : Option Limits) (r : Option Bool) (w : Option ℕ) (n : Option (List ℤ)) → sim_from l r w (λ k. None) n ≡ None
+sim_schedule : (l : Option Limits) (r : Option (Option ReportVersion)) (w : Option ℕ) (n : Option (List ℤ)) → sim_from l r w (λ k. None) n ≡ None
 sim_schedule None r w n = refl
 sim_schedule (Some l) None w n = refl
 sim_schedule (Some l) (Some r) None n = refl
@@ -320,6 +349,17 @@ keep_refused ws even e =
     refused keep_options refl keep_given keep_at keep_same keep_unknown keep_missing ws
     (sym (leaf_judged (codes "keep") keep_options refl ws even) ∙ sym (ap fine (keep_fault ws)) ∙ e)
 
+pub races_taken : (ws : List Text) → has_no_odd ws ≡ true → fault_of cli (codes "races" ∷ ws) ≡ []
+    → command_of (codes "races" ∷ ws) ≡ races_at (λ j. first_of j (rows_after (leaf_rules races_options) [] ws)) (vals (codes "words") (rows_after (leaf_rules races_options) [] ws))
+races_taken ws even e =
+    taken races_options refl races_given races_at races_same races_unknown races_missing ws
+    (sym (leaf_judged (codes "races") races_options refl ws even) ∙ ap fine (sym (races_fault ws) ∙ e))
+
+pub races_refused : (ws : List Text) → has_no_odd ws ≡ true → fine (fault_of cli (codes "races" ∷ ws)) ≡ false → command_of (codes "races" ∷ ws) ≡ None
+races_refused ws even e =
+    refused races_options refl races_given races_at races_same races_unknown races_missing ws
+    (sym (leaf_judged (codes "races") races_options refl ws even) ∙ sym (ap fine (races_fault ws)) ∙ e)
+
 -- the command by the subcommand that a parse enters, and its rows
 abbrev pub command_by : Option (Text × List Row) → Option Command
 command_by None = None
@@ -328,42 +368,46 @@ command_by (Some p) =
     else if bytes_eq p.0 (codes "sim") then sim_at (λ j. first_of j p.1) (vals (codes "words") p.1)
     else if bytes_eq p.0 (codes "load") then load_asked (λ j. first_of j p.1) (vals (codes "words") p.1)
     else if bytes_eq p.0 (codes "keep") then keep_at (λ j. first_of j p.1) (vals (codes "words") p.1)
+    else if bytes_eq p.0 (codes "races") then races_at (λ j. first_of j p.1) (vals (codes "words") p.1)
     else None
 
 abbrev is_name : Text → Bool
-is_name w = bytes_eq w (codes "run") || (bytes_eq w (codes "sim") || (bytes_eq w (codes "load") || bytes_eq w (codes "keep")))
+is_name w = bytes_eq w (codes "run") || (bytes_eq w (codes "sim") || (bytes_eq w (codes "load") || (bytes_eq w (codes "keep") || bytes_eq w (codes "races"))))
 
 no_name : (w : Text) (ws : List Text) → is_name w ≡ false → command_of (w ∷ ws) ≡ None
-no_name w ws = go (bytes_eq w (codes "run")) (bytes_eq w (codes "sim")) (bytes_eq w (codes "load")) (bytes_eq w (codes "keep"))
+no_name w ws = go (bytes_eq w (codes "run")) (bytes_eq w (codes "sim")) (bytes_eq w (codes "load")) (bytes_eq w (codes "keep")) (bytes_eq w (codes "races"))
   where
-    go : (a b c d : Bool) → (a || (b || (c || d))) ≡ false
-        → (if a then option_and_then run_given (given ws) else if b then option_and_then sim_given (given ws) else if c then option_and_then load_given (given ws) else if d then option_and_then keep_given (given ws) else None) ≡ None
-    go true b c d e = absurd (true≢false e)
-    go false true c d e = absurd (true≢false e)
-    go false false true d e = absurd (true≢false e)
-    go false false false true e = absurd (true≢false e)
-    go false false false false e = refl
+    go : (a b c d x : Bool) → (a || (b || (c || (d || x)))) ≡ false
+        → (if a then option_and_then run_given (given ws) else if b then option_and_then sim_given (given ws) else if c then option_and_then load_given (given ws) else if d then option_and_then keep_given (given ws) else if x then option_and_then races_given (given ws) else None) ≡ None
+    go true b c d x e = absurd (true≢false e)
+    go false true c d x e = absurd (true≢false e)
+    go false false true d x e = absurd (true≢false e)
+    go false false false true x e = absurd (true≢false e)
+    go false false false false true e = absurd (true≢false e)
+    go false false false false false e = refl
 
 module _ (ws : List Text) (even : has_no_odd ws ≡ true) where
   pub whole_refused : (w : Text) → fine (fault_of cli (w ∷ ws)) ≡ false → command_of (w ∷ ws) ≡ None
-  whole_refused w e = go (bytes_eq w (codes "run")) (bytes_eq w (codes "sim")) (bytes_eq w (codes "load")) (bytes_eq w (codes "keep")) refl refl refl refl
+  whole_refused w e = go (bytes_eq w (codes "run")) (bytes_eq w (codes "sim")) (bytes_eq w (codes "load")) (bytes_eq w (codes "keep")) (bytes_eq w (codes "races")) refl refl refl refl refl
     where
-      go : (a b c d : Bool) → bytes_eq w (codes "run") ≡ a → bytes_eq w (codes "sim") ≡ b → bytes_eq w (codes "load") ≡ c → bytes_eq w (codes "keep") ≡ d → command_of (w ∷ ws) ≡ None
-      go true b c d i j k l = subst (λ x. fine (fault_of cli (x ∷ ws)) ≡ false → command_of (x ∷ ws) ≡ None) (sym ((bytes_eq-Decides w (codes "run")).0 i)) (run_refused ws even) e
-      go false true c d i j k l = subst (λ x. fine (fault_of cli (x ∷ ws)) ≡ false → command_of (x ∷ ws) ≡ None) (sym ((bytes_eq-Decides w (codes "sim")).0 j)) (sim_refused ws even) e
-      go false false true d i j k l = subst (λ x. fine (fault_of cli (x ∷ ws)) ≡ false → command_of (x ∷ ws) ≡ None) (sym ((bytes_eq-Decides w (codes "load")).0 k)) (load_refused ws even) e
-      go false false false true i j k l = subst (λ x. fine (fault_of cli (x ∷ ws)) ≡ false → command_of (x ∷ ws) ≡ None) (sym ((bytes_eq-Decides w (codes "keep")).0 l)) (keep_refused ws even) e
-      go false false false false i j k l = no_name w ws (λ z. i z || (j z || (k z || l z)))
+      go : (a b c d x : Bool) → bytes_eq w (codes "run") ≡ a → bytes_eq w (codes "sim") ≡ b → bytes_eq w (codes "load") ≡ c → bytes_eq w (codes "keep") ≡ d → bytes_eq w (codes "races") ≡ x → command_of (w ∷ ws) ≡ None
+      go true b c d x i j k l m = subst (λ x. fine (fault_of cli (x ∷ ws)) ≡ false → command_of (x ∷ ws) ≡ None) (sym ((bytes_eq-Decides w (codes "run")).0 i)) (run_refused ws even) e
+      go false true c d x i j k l m = subst (λ x. fine (fault_of cli (x ∷ ws)) ≡ false → command_of (x ∷ ws) ≡ None) (sym ((bytes_eq-Decides w (codes "sim")).0 j)) (sim_refused ws even) e
+      go false false true d x i j k l m = subst (λ x. fine (fault_of cli (x ∷ ws)) ≡ false → command_of (x ∷ ws) ≡ None) (sym ((bytes_eq-Decides w (codes "load")).0 k)) (load_refused ws even) e
+      go false false false true x i j k l m = subst (λ x. fine (fault_of cli (x ∷ ws)) ≡ false → command_of (x ∷ ws) ≡ None) (sym ((bytes_eq-Decides w (codes "keep")).0 l)) (keep_refused ws even) e
+      go false false false false true i j k l m = subst (λ y. fine (fault_of cli (y ∷ ws)) ≡ false → command_of (y ∷ ws) ≡ None) (sym ((bytes_eq-Decides w (codes "races")).0 m)) (races_refused ws even) e
+      go false false false false false i j k l m = no_name w ws (λ z. i z || (j z || (k z || (l z || m z))))
 
   pub named_taken : (w : Text) → is_name w ≡ true → fault_of cli (w ∷ ws) ≡ [] → command_of (w ∷ ws) ≡ command_by (subcommand_of cli (w ∷ ws))
-  named_taken w n e = go (bytes_eq w (codes "run")) (bytes_eq w (codes "sim")) (bytes_eq w (codes "load")) (bytes_eq w (codes "keep")) refl refl refl refl
+  named_taken w n e = go (bytes_eq w (codes "run")) (bytes_eq w (codes "sim")) (bytes_eq w (codes "load")) (bytes_eq w (codes "keep")) (bytes_eq w (codes "races")) refl refl refl refl refl
     where
-      go : (a b c d : Bool) → bytes_eq w (codes "run") ≡ a → bytes_eq w (codes "sim") ≡ b → bytes_eq w (codes "load") ≡ c → bytes_eq w (codes "keep") ≡ d → command_of (w ∷ ws) ≡ command_by (subcommand_of cli (w ∷ ws))
-      go true b c d i j k l = subst (λ x. fault_of cli (x ∷ ws) ≡ [] → command_of (x ∷ ws) ≡ command_by (subcommand_of cli (x ∷ ws))) (sym ((bytes_eq-Decides w (codes "run")).0 i)) (λ f. run_taken ws even f ∙ sym (ap command_by (run_rows ws))) e
-      go false true c d i j k l = subst (λ x. fault_of cli (x ∷ ws) ≡ [] → command_of (x ∷ ws) ≡ command_by (subcommand_of cli (x ∷ ws))) (sym ((bytes_eq-Decides w (codes "sim")).0 j)) (λ f. sim_taken ws even f ∙ sym (ap command_by (sim_rows ws))) e
-      go false false true d i j k l = subst (λ x. fault_of cli (x ∷ ws) ≡ [] → command_of (x ∷ ws) ≡ command_by (subcommand_of cli (x ∷ ws))) (sym ((bytes_eq-Decides w (codes "load")).0 k)) (λ f. load_taken ws even f ∙ sym (ap command_by (load_rows ws))) e
-      go false false false true i j k l = subst (λ x. fault_of cli (x ∷ ws) ≡ [] → command_of (x ∷ ws) ≡ command_by (subcommand_of cli (x ∷ ws))) (sym ((bytes_eq-Decides w (codes "keep")).0 l)) (λ f. keep_taken ws even f ∙ sym (ap command_by (keep_rows ws))) e
-      go false false false false i j k l = absurd (true≢false (sym n ∙ (λ z. i z || (j z || (k z || l z)))))
+      go : (a b c d x : Bool) → bytes_eq w (codes "run") ≡ a → bytes_eq w (codes "sim") ≡ b → bytes_eq w (codes "load") ≡ c → bytes_eq w (codes "keep") ≡ d → bytes_eq w (codes "races") ≡ x → command_of (w ∷ ws) ≡ command_by (subcommand_of cli (w ∷ ws))
+      go true b c d x i j k l m = subst (λ x. fault_of cli (x ∷ ws) ≡ [] → command_of (x ∷ ws) ≡ command_by (subcommand_of cli (x ∷ ws))) (sym ((bytes_eq-Decides w (codes "run")).0 i)) (λ f. run_taken ws even f ∙ sym (ap command_by (run_rows ws))) e
+      go false true c d x i j k l m = subst (λ x. fault_of cli (x ∷ ws) ≡ [] → command_of (x ∷ ws) ≡ command_by (subcommand_of cli (x ∷ ws))) (sym ((bytes_eq-Decides w (codes "sim")).0 j)) (λ f. sim_taken ws even f ∙ sym (ap command_by (sim_rows ws))) e
+      go false false true d x i j k l m = subst (λ x. fault_of cli (x ∷ ws) ≡ [] → command_of (x ∷ ws) ≡ command_by (subcommand_of cli (x ∷ ws))) (sym ((bytes_eq-Decides w (codes "load")).0 k)) (λ f. load_taken ws even f ∙ sym (ap command_by (load_rows ws))) e
+      go false false false true x i j k l m = subst (λ x. fault_of cli (x ∷ ws) ≡ [] → command_of (x ∷ ws) ≡ command_by (subcommand_of cli (x ∷ ws))) (sym ((bytes_eq-Decides w (codes "keep")).0 l)) (λ f. keep_taken ws even f ∙ sym (ap command_by (keep_rows ws))) e
+      go false false false false true i j k l m = subst (λ y. fault_of cli (y ∷ ws) ≡ [] → command_of (y ∷ ws) ≡ command_by (subcommand_of cli (y ∷ ws))) (sym ((bytes_eq-Decides w (codes "races")).0 m)) (λ f. races_taken ws even f ∙ sym (ap command_by (races_rows ws))) e
+      go false false false false false i j k l m = absurd (true≢false (sym n ∙ (λ z. i z || (j z || (k z || (l z || m z))))))
 
   flipped : (x y : Text) → bytes_eq x y ≡ false → bytes_eq y x ≡ false
   flipped x y e = go (bytes_eq y x) refl
@@ -374,18 +418,19 @@ module _ (ws : List Text) (even : has_no_odd ws ≡ true) where
 
   -- a parse that does not fail gives the command that the words are
   pub whole_taken : (w : Text) → is_odd w ≡ false → fault_of cli (w ∷ ws) ≡ [] → command_of (w ∷ ws) ≡ command_by (subcommand_of cli (w ∷ ws))
-  whole_taken w o e = go (bytes_eq w (codes "run")) (bytes_eq w (codes "sim")) (bytes_eq w (codes "load")) (bytes_eq w (codes "keep")) refl refl refl refl
+  whole_taken w o e = go (bytes_eq w (codes "run")) (bytes_eq w (codes "sim")) (bytes_eq w (codes "load")) (bytes_eq w (codes "keep")) (bytes_eq w (codes "races")) refl refl refl refl refl
     where
       other : Enters w ws → command_of (w ∷ ws) ≡ None → command_of (w ∷ ws) ≡ command_by (subcommand_of cli (w ∷ ws))
       other (inl f) none = absurd (true≢false (sym (ap fine e) ∙ f))
       other (inr s) none = none ∙ sym (ap command_by s)
 
-      go : (a b c d : Bool) → bytes_eq w (codes "run") ≡ a → bytes_eq w (codes "sim") ≡ b → bytes_eq w (codes "load") ≡ c → bytes_eq w (codes "keep") ≡ d → command_of (w ∷ ws) ≡ command_by (subcommand_of cli (w ∷ ws))
-      go true b c d i j k l = named_taken w (ap (λ t. t || (bytes_eq w (codes "sim") || (bytes_eq w (codes "load") || bytes_eq w (codes "keep")))) i) e
-      go false true c d i j k l = named_taken w (λ z. i z || (j z || (bytes_eq w (codes "load") || bytes_eq w (codes "keep")))) e
-      go false false true d i j k l = named_taken w (λ z. i z || (j z || (k z || bytes_eq w (codes "keep")))) e
-      go false false false true i j k l = named_taken w (λ z. i z || (j z || (k z || l z))) e
-      go false false false false i j k l = other (other_first ws w (flipped w (codes "run") i) (flipped w (codes "sim") j) (flipped w (codes "load") k) (flipped w (codes "keep") l) o) (no_name w ws (λ z. i z || (j z || (k z || l z))))
+      go : (a b c d x : Bool) → bytes_eq w (codes "run") ≡ a → bytes_eq w (codes "sim") ≡ b → bytes_eq w (codes "load") ≡ c → bytes_eq w (codes "keep") ≡ d → bytes_eq w (codes "races") ≡ x → command_of (w ∷ ws) ≡ command_by (subcommand_of cli (w ∷ ws))
+      go true b c d x i j k l m = named_taken w (ap (λ t. t || (bytes_eq w (codes "sim") || (bytes_eq w (codes "load") || (bytes_eq w (codes "keep") || bytes_eq w (codes "races"))))) i) e
+      go false true c d x i j k l m = named_taken w (λ z. i z || (j z || (bytes_eq w (codes "load") || (bytes_eq w (codes "keep") || bytes_eq w (codes "races"))))) e
+      go false false true d x i j k l m = named_taken w (λ z. i z || (j z || (k z || (bytes_eq w (codes "keep") || bytes_eq w (codes "races"))))) e
+      go false false false true x i j k l m = named_taken w (λ z. i z || (j z || (k z || (l z || bytes_eq w (codes "races"))))) e
+      go false false false false true i j k l m = named_taken w (λ z. i z || (j z || (k z || (l z || m z)))) e
+      go false false false false false i j k l m = other (other_first ws w (flipped w (codes "run") i) (flipped w (codes "sim") j) (flipped w (codes "load") k) (flipped w (codes "keep") l) (flipped w (codes "races") m) o) (no_name w ws (λ z. i z || (j z || (k z || (l z || m z)))))
 
 -- ## `-` as a word
 

@@ -9,7 +9,8 @@ use Rattle.cw_code.specs.declared.Limits.{Limits}
 use Rattle.cw_code.specs.Ranges.{NumberOption, aborts_option, fuel_option, moves_option, size_option, strands_option, workers_option}
 use Rattle.cw_io.specs.declared.schedule.Schedule.{Schedule}
 use Rattle.cw_words.specs.declared.command.Command.{Command}
-use Rattle.cw_words.specs.declared.command.Command.TheVariants.{Run, Sim, Load, Keep}
+use Rattle.cw_words.specs.declared.command.Command.TheVariants.{Run, Sim, Load, Keep, Races}
+use Rattle.cw_words.specs.declared.command.ReportVersion.{ReportVersion}
 use Rattle.cw_words.specs.Options.{integers_of, number_in, number_within, sole_word}
 use Rattle.cw_words.specs.Words.{most_transfers, report_in, schedule_in}
 
@@ -48,19 +49,19 @@ limits_from fuel size aborts strands moves =
 abbrev pub limits_at : Values → Option Limits
 limits_at val = limits_from (number_at fuel_option val) (number_at size_option val) (number_at aborts_option val) (number_at strands_option val) (number_at moves_option val)
 
-abbrev pub report_at : Values → Option Bool
+abbrev pub report_at : Values → Option (Option ReportVersion)
 report_at val = report_in (val (codes "report"))
 
 abbrev pub schedule_at : (workers : ℕ) → Values → Option Schedule
 schedule_at workers val = schedule_in workers (val (codes "schedule")) (val (codes "seed"))
 
-abbrev pub run_from : Option Limits → Option Bool → Option ℕ → Option (List ℤ) → Option Command
+abbrev pub run_from : Option Limits → Option (Option ReportVersion) → Option ℕ → Option (List ℤ) → Option Command
 run_from limits report workers integers = option_and_then (λ l. option_and_then (λ r. option_and_then (λ w. option_map (λ ns. Run ns l w r) integers) workers) report) limits
 
 abbrev pub run_at : Values → List Text → Option Command
 run_at val ws = run_from (limits_at val) (report_at val) (number_at workers_option val) (integers_of ws)
 
-abbrev pub sim_from : Option Limits → Option Bool → Option ℕ → (ℕ → Option Schedule) → Option (List ℤ) → Option Command
+abbrev pub sim_from : Option Limits → Option (Option ReportVersion) → Option ℕ → (ℕ → Option Schedule) → Option (List ℤ) → Option Command
 sim_from limits report workers schedule integers =
     option_and_then (λ l. option_and_then (λ r. option_and_then (λ w. option_and_then (λ s. option_map (λ ns. Sim ns l w s r) integers) (schedule w)) workers) report) limits
 
@@ -81,3 +82,9 @@ keep_from limits workers integers = option_and_then (λ l. option_and_then (λ w
 
 abbrev pub keep_at : Values → List Text → Option Command
 keep_at val ws = keep_from (limits_at val) (number_at workers_option val) (integers_of ws)
+
+abbrev pub races_from : Option Limits → Option (List ℤ) → Option Command
+races_from limits integers = option_and_then (λ l. option_map (λ ns. Races ns l) integers) limits
+
+abbrev pub races_at : Values → List Text → Option Command
+races_at val ws = races_from (limits_at val) (integers_of ws)

@@ -1,6 +1,6 @@
--- Which words are a command, and what they say. There are four commands. `run` has six options, `keep` has five of them and `sim`
--- has nine, and all three have the words of main. `load` has one option and a number.
-use Rattle.std.specs.Prelude.{◌-◌, ◌^◌, Bool, true, false, List, [], ◌∷◌, ℕ, ℤ, Option, Some, None, codes, if◌then◌else◌, map, option_and_then, option_map, string_bytes, String}
+-- Which words are a command, and what they say. There are five commands. `run` has six options, `keep` has five of them and
+-- `races` two, and `sim` has nine. These four have the words of main. `load` has one option and a number.
+use Rattle.std.specs.Prelude.{◌-◌, ◌^◌, ◌==◌, List, [], ◌∷◌, ℕ, ℤ, Option, Some, None, codes, if◌then◌else◌, map, option_and_then, option_map, string_bytes, String}
 use Rattle.std.specs.declared.alloc.Global.{Global}
 use Rattle.std.specs.Str.{bytes_eq}
 use Rattle.cw_code.specs.declared.Limits.{Limits}
@@ -8,7 +8,9 @@ use Rattle.cw_code.specs.Ranges.{aborts_option, default_limits, fuel_option, mov
 use Rattle.cw_io.specs.declared.schedule.Schedule.{Schedule}
 use Rattle.cw_io.specs.declared.schedule.Schedule.TheVariants.{List as Listed, Seeded}
 use Rattle.cw_words.specs.declared.command.Command.{Command}
-use Rattle.cw_words.specs.declared.command.Command.TheVariants.{Run, Sim, Load, Keep}
+use Rattle.cw_words.specs.declared.command.Command.TheVariants.{Run, Sim, Load, Keep, Races}
+use Rattle.cw_words.specs.declared.command.ReportVersion.{ReportVersion}
+use Rattle.cw_words.specs.declared.command.ReportVersion.TheVariants.{First, Second}
 use Rattle.cw_words.specs.Options.{Given, GivenOption, are_known, given, integers_of, list_below, number_given, number_within, sole_word, option_value}
 
 -- ## Options
@@ -26,6 +28,9 @@ load_options = codes "workers" ∷ []
 abbrev pub keep_options : List (List ℕ)
 keep_options = codes "fuel" ∷ codes "size" ∷ codes "aborts" ∷ codes "strands" ∷ codes "workers" ∷ []
 
+abbrev pub races_options : List (List ℕ)
+races_options = codes "fuel" ∷ codes "size" ∷ []
+
 -- The limits that options give. A limit that is not given, or that is no option of the command, has its default.
 abbrev pub limits_given : List GivenOption → Option Limits
 limits_given os =
@@ -33,12 +38,12 @@ limits_given os =
     record { fuel = f; size = n; aborts = b; strands = m; moves = c })
     (number_given moves_option os)) (number_given strands_option os)) (number_given aborts_option os)) (number_given size_option os)) (number_given fuel_option os)
 
--- Whether a report is asked for. The option's one value is 1, the number of the report's format.
-abbrev pub report_in : (value : Option (List ℕ)) → Option Bool
-report_in None = Some false
-report_in (Some v) = option_map (λ n. true) (number_within 1 1 v)
+-- The version of the report that is asked for, if one is. The option's value is its number.
+abbrev pub report_in : (value : Option (List ℕ)) → Option (Option ReportVersion)
+report_in None = Some None
+report_in (Some v) = option_map (λ n. Some (if n == 1 then First else Second)) (number_within 1 2 v)
 
-abbrev pub report_given : List GivenOption → Option Bool
+abbrev pub report_given : List GivenOption → Option (Option ReportVersion)
 report_given os = option_and_then report_in (option_value (codes "report") os)
 
 -- ## Schedules
@@ -101,6 +106,12 @@ keep_given g =
     (integers_of g.words)) (number_given workers_option g.options)) (limits_given g.options)
     else None
 
+-- the search for races that options and words ask for
+abbrev pub races_given : Given → Option Command
+races_given g =
+    if are_known races_options g.options then option_and_then (λ limits. option_map (λ ns. Races ns limits) (integers_of g.words)) (limits_given g.options)
+    else None
+
 -- The first word says which command it is.
 abbrev pub command_of : List (List ℕ) → Option Command
 command_of [] = None
@@ -109,6 +120,7 @@ command_of (name ∷ words) =
     else if bytes_eq name (codes "sim") then option_and_then sim_given (given words)
     else if bytes_eq name (codes "load") then option_and_then load_given (given words)
     else if bytes_eq name (codes "keep") then option_and_then keep_given (given words)
+    else if bytes_eq name (codes "races") then option_and_then races_given (given words)
     else None
 
 abbrev pub words_of : Command → List ℤ
@@ -116,12 +128,14 @@ words_of (Run words limits workers report) = words
 words_of (Sim words limits workers schedule report) = words
 words_of (Load transfers workers) = []
 words_of (Keep words limits workers) = words
+words_of (Races words limits) = words
 
 abbrev pub limits_of : Command → Limits
 limits_of (Run words limits workers report) = limits
 limits_of (Sim words limits workers schedule report) = limits
 limits_of (Load transfers workers) = default_limits
 limits_of (Keep words limits workers) = limits
+limits_of (Races words limits) = limits
 
 -- the command that the words behind the program's name are, if they are one
 abbrev pub command_in : List (String Global) → Option Command

@@ -1,37 +1,38 @@
 -- Examples of words, and the commands that they are.
-use Rattle.std.specs.Prelude.{◌≡◌, ℕ, ℤ, pos, neg_ℤ, true, false, List, [], ◌∷◌, ◌++◌, Option, Some, None, codes, replicate}
+use Rattle.std.specs.Prelude.{◌≡◌, ℕ, ℤ, pos, neg_ℤ, List, [], ◌∷◌, ◌++◌, Option, Some, None, codes, replicate}
 use Rattle.std.specs.List.{flat_map}
 use Rattle.cw_code.specs.declared.Limits.{Limits}
 use Rattle.cw_code.specs.Ranges.{default_limits}
 use Rattle.cw_io.specs.declared.schedule.Schedule.{Schedule}
 use Rattle.cw_io.specs.declared.schedule.Schedule.TheVariants.{List as Listed, Seeded}
 use Rattle.cw_words.specs.declared.command.Command.{Command}
-use Rattle.cw_words.specs.declared.command.Command.TheVariants.{Run, Sim, Load, Keep}
+use Rattle.cw_words.specs.declared.command.Command.TheVariants.{Run, Sim, Load, Keep, Races}
+use Rattle.cw_words.specs.declared.command.ReportVersion.TheVariants.{First, Second}
 use Rattle.cw_words.specs.Options.{list_below}
 use Rattle.cw_words.specs.Words.{command_of}
 
 -- a run with this fuel and size; its other limits are the defaults
 abbrev pub run_of : (fuel size : ℕ) → Option Command
-run_of fuel size = Some (Run [] (record default_limits { fuel = fuel; size = size }) 4 false)
+run_of fuel size = Some (Run [] (record default_limits { fuel = fuel; size = size }) 4 None)
 
 -- a run of these words
 abbrev pub run_on : List ℤ → Option Command
-run_on words = Some (Run words default_limits 4 false)
+run_on words = Some (Run words default_limits 4 None)
 
 -- a run with these limits, without words, by `workers` workers
 abbrev pub run_by : Limits → (workers : ℕ) → Option Command
-run_by limits workers = Some (Run [] limits workers false)
+run_by limits workers = Some (Run [] limits workers None)
 
 -- a simulation with these limits, without words, by `workers` workers in the turns of a schedule
 abbrev pub sim_of : Limits → (workers : ℕ) → Schedule → Option Command
-sim_of limits workers schedule = Some (Sim [] limits workers schedule false)
+sim_of limits workers schedule = Some (Sim [] limits workers schedule None)
 
 -- the list of `n + 1` zeros, with commas between them
 abbrev pub zeros : ℕ → List ℕ
 zeros n = codes "0" ++ flat_map {X = ℕ} (λ x. codes ",0") (replicate n 0)
 
 pub record Commands : Type 0 where
-  pub plain : command_of (codes "run" ∷ []) ≡ Some (Run [] default_limits 4 false)
+  pub plain : command_of (codes "run" ∷ []) ≡ Some (Run [] default_limits 4 None)
   pub none : command_of [] ≡ None
   pub capital : command_of (codes "Run" ∷ []) ≡ None
   pub empty : command_of ([] ∷ []) ≡ None
@@ -68,14 +69,14 @@ pub record Commands : Type 0 where
   pub before : command_of (codes "--fuel" ∷ codes "1" ∷ codes "run" ∷ []) ≡ None
   -- words of main, in their order, before, between and behind options
   pub word : command_of (codes "run" ∷ codes "7" ∷ []) ≡ run_on (pos 7 ∷ [])
-  pub words : command_of (codes "run" ∷ codes "7" ∷ codes "--fuel" ∷ codes "2" ∷ codes "5" ∷ codes "--size=4" ∷ []) ≡ Some (Run (pos 7 ∷ pos 5 ∷ []) (record default_limits { fuel = 2; size = 4 }) 4 false)
+  pub words : command_of (codes "run" ∷ codes "7" ∷ codes "--fuel" ∷ codes "2" ∷ codes "5" ∷ codes "--size=4" ∷ []) ≡ Some (Run (pos 7 ∷ pos 5 ∷ []) (record default_limits { fuel = 2; size = 4 }) 4 None)
   pub word_zeros : command_of (codes "run" ∷ codes "007" ∷ []) ≡ run_on (pos 7 ∷ [])
   pub greatest : command_of (codes "run" ∷ codes "9223372036854775807" ∷ []) ≡ run_on (pos 9223372036854775807 ∷ [])
   -- behind `--` there are only words
   pub only_words : command_of (codes "run" ∷ codes "--" ∷ codes "7" ∷ codes "-5" ∷ []) ≡ run_on (pos 7 ∷ neg_ℤ (pos 5) ∷ [])
   pub only_behind : command_of (codes "run" ∷ codes "7" ∷ codes "--" ∷ codes "-5" ∷ []) ≡ run_on (pos 7 ∷ neg_ℤ (pos 5) ∷ [])
   pub no_more : command_of (codes "run" ∷ codes "--" ∷ []) ≡ run_on []
-  pub option_before : command_of (codes "run" ∷ codes "--size=4" ∷ codes "--" ∷ codes "1" ∷ []) ≡ Some (Run (pos 1 ∷ []) (record default_limits { size = 4 }) 4 false)
+  pub option_before : command_of (codes "run" ∷ codes "--size=4" ∷ codes "--" ∷ codes "1" ∷ []) ≡ Some (Run (pos 1 ∷ []) (record default_limits { size = 4 }) 4 None)
   pub signed_zeros : command_of (codes "run" ∷ codes "--" ∷ codes "-0" ∷ codes "-007" ∷ []) ≡ run_on (pos 0 ∷ neg_ℤ (pos 7) ∷ [])
   pub lowest : command_of (codes "run" ∷ codes "--" ∷ codes "-9223372036854775808" ∷ codes "0" ∷ []) ≡ run_on (neg_ℤ (pos 9223372036854775808) ∷ pos 0 ∷ [])
   -- what is no word of main
@@ -99,7 +100,7 @@ pub record Simulations : Type 0 where
   pub capital : command_of (codes "SIM" ∷ []) ≡ None
   -- all options, both ways to give them, and words between them
   pub all : command_of (codes "sim" ∷ codes "--workers" ∷ codes "2" ∷ codes "--fuel=3" ∷ codes "--size" ∷ codes "4" ∷ codes "7" ∷ codes "--aborts=5" ∷ codes "--strands" ∷ codes "6" ∷ codes "--moves=8" ∷ codes "--schedule" ∷ codes "0,1,0" ∷ codes "--" ∷ codes "-9" ∷ [])
-      ≡ Some (Sim (pos 7 ∷ neg_ℤ (pos 9) ∷ []) (record { fuel = 3; size = 4; aborts = 5; strands = 6; moves = 8 }) 2 (Listed (0 ∷ 1 ∷ 0 ∷ [])) false)
+      ≡ Some (Sim (pos 7 ∷ neg_ℤ (pos 9) ∷ []) (record { fuel = 3; size = 4; aborts = 5; strands = 6; moves = 8 }) 2 (Listed (0 ∷ 1 ∷ 0 ∷ [])) None)
   pub most : command_of (codes "sim" ∷ codes "--workers=64" ∷ codes "--fuel=1000000000" ∷ codes "--size=10000000" ∷ codes "--aborts=1000000000" ∷ codes "--strands=1000000" ∷ codes "--moves=1000000000" ∷ codes "--schedule=63" ∷ [])
       ≡ sim_of (record { fuel = 1000000000; size = 10000000; aborts = 1000000000; strands = 1000000; moves = 1000000000 }) 64 (Listed (63 ∷ []))
   pub least : command_of (codes "sim" ∷ codes "--workers=1" ∷ codes "--fuel=1" ∷ codes "--size=1" ∷ codes "--aborts=1" ∷ codes "--strands=1" ∷ codes "--moves=1" ∷ codes "--schedule=0" ∷ [])
@@ -137,10 +138,13 @@ pub record Simulations : Type 0 where
   pub great_seed : command_of (codes "sim" ∷ codes "--seed=18446744073709551616" ∷ []) ≡ None
   pub both : command_of (codes "sim" ∷ codes "--seed=1" ∷ codes "--schedule=0" ∷ []) ≡ None
   pub both_other : command_of (codes "sim" ∷ codes "--schedule" ∷ codes "0" ∷ codes "--seed" ∷ codes "1" ∷ []) ≡ None
-  -- a report: the option's one value is 1
-  pub report : command_of (codes "sim" ∷ codes "--report" ∷ codes "1" ∷ []) ≡ Some (Sim [] default_limits 4 (Listed []) true)
-  pub run_report : command_of (codes "run" ∷ codes "--report=01" ∷ []) ≡ Some (Run [] default_limits 4 true)
-  pub other_report : command_of (codes "run" ∷ codes "--report" ∷ codes "2" ∷ []) ≡ None
+  -- a report: the option's value is the number of its version
+  pub report : command_of (codes "sim" ∷ codes "--report" ∷ codes "1" ∷ []) ≡ Some (Sim [] default_limits 4 (Listed []) (Some First))
+  pub run_report : command_of (codes "run" ∷ codes "--report=01" ∷ []) ≡ Some (Run [] default_limits 4 (Some First))
+  pub second_report : command_of (codes "run" ∷ codes "--report" ∷ codes "2" ∷ []) ≡ Some (Run [] default_limits 4 (Some Second))
+  pub report_zeros : command_of (codes "sim" ∷ codes "--report=02" ∷ []) ≡ Some (Sim [] default_limits 4 (Listed []) (Some Second))
+  pub third_report : command_of (codes "run" ∷ codes "--report" ∷ codes "3" ∷ []) ≡ None
+  pub empty_report : command_of (codes "run" ∷ codes "--report=" ∷ []) ≡ None
   pub no_report : command_of (codes "sim" ∷ codes "--report=0" ∷ []) ≡ None
   -- options of a run, too
   pub run_workers : command_of (codes "run" ∷ codes "--workers" ∷ codes "1" ∷ []) ≡ run_by default_limits 1
@@ -195,3 +199,13 @@ pub record Keeps : Type 0 where
   pub letter : command_of (codes "keep" ∷ codes "x" ∷ []) ≡ None
   pub workers_twice : command_of (codes "keep" ∷ codes "--workers=4" ∷ codes "--workers" ∷ codes "4" ∷ []) ≡ None
   pub no_workers : command_of (codes "keep" ∷ codes "--workers=0" ∷ []) ≡ None
+
+pub record RaceSearches : Type 0 where
+  pub plain : command_of (codes "races" ∷ []) ≡ Some (Races [] default_limits)
+  pub all : command_of (codes "races" ∷ codes "--fuel=3" ∷ codes "7" ∷ codes "--size" ∷ codes "4" ∷ codes "--" ∷ codes "-9" ∷ []) ≡ Some (Races (pos 7 ∷ neg_ℤ (pos 9) ∷ []) (record default_limits { fuel = 3; size = 4 }))
+  -- options of other commands
+  pub workers : command_of (codes "races" ∷ codes "--workers" ∷ codes "1" ∷ []) ≡ None
+  pub aborts : command_of (codes "races" ∷ codes "--aborts=3" ∷ []) ≡ None
+  pub report : command_of (codes "races" ∷ codes "--report" ∷ codes "1" ∷ []) ≡ None
+  pub fuel_twice : command_of (codes "races" ∷ codes "--fuel=4" ∷ codes "--fuel" ∷ codes "4" ∷ []) ≡ None
+  pub letter : command_of (codes "races" ∷ codes "x" ∷ []) ≡ None

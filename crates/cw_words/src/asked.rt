@@ -7,6 +7,7 @@ ghost use Rattle.cw_words.specs.Options.{integers_of, number_in, sole_word};
 ghost use Rattle.cw_words.specs.Reading.{Reads};
 ghost use Rattle.cw_words.specs.Words.{schedule_in as schedule_by};
 
+use crate::ReportVersion;
 use crate::options::{Kept, integer_of, list_below, number_within, with_one};
 use clap::ArgMatches;
 use cw_base::{OutOfMemory, Seq};
@@ -58,16 +59,21 @@ pub fn limits_of(found: &ArgMatches<'_>) -> Option<Limits>
     })
 }
 
-/// Whether options ask for a report.
-pub fn report_of(found: &ArgMatches<'_>) -> Option<bool>
+/// Returns the version of the report that options ask for, if they ask for one.
+pub fn report_of(found: &ArgMatches<'_>) -> Option<Option<ReportVersion>>
     ensures { result ≡ report_at (value_in (found_of found.now)) }
 {
     match value_of(found, "report") {
         Some(value) => {
-            number_within(value, 1, 1)?;
-            Some(true)
+            let number = number_within(value, 1, 2)?;
+            let version = if number == 1 {
+                ReportVersion::First
+            } else {
+                ReportVersion::Second
+            };
+            Some(Some(version))
         }
-        None => Some(false),
+        None => Some(None),
     }
 }
 

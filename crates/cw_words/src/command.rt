@@ -1,7 +1,7 @@
 ghost use Rattle.std.specs.Prelude.{◌≡◌, IfOk, false, length, map, string_bytes, true};
 ghost use Rattle.std.specs.List.{list_any};
 ghost use Rattle.clap.specs.Words.{found_of};
-ghost use Rattle.cw_words.specs.Asked.{is_dash, keep_at, load_asked, run_at, sim_at, value_in, words_in};
+ghost use Rattle.cw_words.specs.Asked.{is_dash, keep_at, load_asked, races_at, run_at, sim_at, value_in, words_in};
 ghost use Rattle.cw_words.specs.Shapes.{has_no_odd};
 ghost use Rattle.cw_words.specs.Words.{command_of, words_of};
 
@@ -14,6 +14,13 @@ use cw_code::Limits;
 use cw_io::Schedule;
 use std::alloc::Global;
 
+/// The versions of the report. The second one also says how many blocks were cancelled.
+#[derive(Clone, Copy, PartialEq, Eq, Debug)]
+pub enum ReportVersion {
+    First,
+    Second,
+}
+
 /// What a command asks for, with what its words say.
 #[derive(Drop)]
 pub enum Command {
@@ -23,7 +30,7 @@ pub enum Command {
         words: Seq<i64>,
         limits: Limits,
         workers: u32,
-        report: bool,
+        report: Option<ReportVersion>,
     },
     /// Like `Run`, but with virtual workers, who move in the turns of `schedule`.
     Sim {
@@ -31,7 +38,7 @@ pub enum Command {
         limits: Limits,
         workers: u32,
         schedule: Schedule,
-        report: bool,
+        report: Option<ReportVersion>,
     },
     /// Reads nothing, runs a program of `transfers` transfers by `workers` workers, and writes a summary of it.
     Load {
@@ -44,6 +51,11 @@ pub enum Command {
         limits: Limits,
         workers: u32,
     },
+    /// Reads a program from the source, runs it depth first with these words and limits, and writes the races of that run.
+    Races {
+        words: Seq<i64>,
+        limits: Limits,
+    },
 }
 
 impl Command {
@@ -52,8 +64,10 @@ impl Command {
         ensures { result ≡ length (words_of self.now) }
     {
         match self {
-            Command::Run { words, .. } | Command::Sim { words, .. } | Command::Keep { words, .. } =>
-                words.len(),
+            Command::Run { words, .. }
+            | Command::Sim { words, .. }
+            | Command::Keep { words, .. }
+            | Command::Races { words, .. } => words.len(),
             Command::Load { .. } => 0,
         }
     }
@@ -140,6 +154,22 @@ fn keep_with(alloc: Global, found: &ArgMatches<'_>) -> Result<Option<Command>, O
     }))
 }
 
+// Returns the search for races that options and words ask for.
+fn races_with(alloc: Global, found: &ArgMatches<'_>) -> Result<Option<Command>, OutOfMemory>
+    ensures { IfOk result (λ c. c ≡ races_at (value_in (found_of found.now)) (words_in (found_of found.now))) }
+{
+    let Some(limits) = limits_of(found) else {
+        return Ok(None);
+    };
+    let Some(kept) = integers_of(alloc, found) else {
+        return Ok(None);
+    };
+    Ok(Some(Command::Races {
+        words: kept?,
+        limits,
+    }))
+}
+
 // Whether one of the words is `-`. clap takes it as a value or a plain word.
 fn has_hyphen_alone(words: &[String]) -> bool
     ensures dash { result ≡ list_any is_dash (map string_bytes words.now) }
@@ -180,6 +210,8 @@ pub fn command_of(alloc: Global, words: &[String]) -> Result<Option<Command>, Ou
         Ok(load_with(found))
     } else if name == "keep" {
         keep_with(alloc, found)
+    } else if name == "races" {
+        races_with(alloc, found)
     } else {
         Ok(None)
     }

@@ -9,9 +9,9 @@ mod command;
 mod line;
 mod options;
 
-ghost use Rattle.cw_words.specs.Worked.{Commands, Keeps, Loads, Simulations};
+ghost use Rattle.cw_words.specs.Worked.{Commands, Keeps, Loads, RaceSearches, Simulations};
 
-pub use command::{Command, command_of};
+pub use command::{Command, ReportVersion, command_of};
 
 /// Examples of words, and the commands that they are.
 pub fn worked_words()
@@ -19,4 +19,5 @@ pub fn worked_words()
     ensures simulations { Simulations }
     ensures loads { Loads }
     ensures keeps { Keeps }
+    ensures races { RaceSearches }
 {}

@@ -1,6 +1,7 @@
-ghost use Rattle.std.specs.Prelude.{◌≡◌, ◌⊎◌, [], false, IfErr, IfOk, map, string_bytes};
+ghost use Rattle.std.specs.Prelude.{◌≡◌, ◌⊎◌, [], codes, false, IfErr, IfOk, map, string_bytes};
 ghost use Rattle.clap.specs.Words.{app_of, fault_of, kind_of, rule_of, subcommand_of, subcommand_rows_of};
 ghost use Rattle.clap.specs.declared.builder.command.Command.TheViews.{out-Command as fields_of};
+ghost use Rattle.cw_words.specs.Words.{keep_options, load_options, races_options, run_options, sim_options};
 ghost use Rattle.cw_words.specs.Shapes.{cli, fine, leaf_app, option_rule, word_rule};
 
 use clap::error::ErrorKind;
@@ -49,14 +50,52 @@ static LOAD_OPTIONS: [&str; 1] = ["workers"];
 
 static KEEP_OPTIONS: [&str; 5] = ["fuel", "size", "aborts", "strands", "workers"];
 
-// Returns the command line: four commands, with neither help nor version.
+static RACES_OPTIONS: [&str; 2] = ["fuel", "size"];
+
+fn run_line<'a>(alloc: Global) -> Result<Command<'a>, AllocError>
+    ensures app { IfOk result (λ r. app_of r ≡ leaf_app (codes "run") run_options) }
+    ensures local { IfOk result (λ r. (fields_of r).has_globals ≡ false) }
+{
+    command_with(alloc, "run", RUN_OPTIONS.as_slice())
+}
+
+fn sim_line<'a>(alloc: Global) -> Result<Command<'a>, AllocError>
+    ensures app { IfOk result (λ r. app_of r ≡ leaf_app (codes "sim") sim_options) }
+    ensures local { IfOk result (λ r. (fields_of r).has_globals ≡ false) }
+{
+    command_with(alloc, "sim", SIM_OPTIONS.as_slice())
+}
+
+fn load_line<'a>(alloc: Global) -> Result<Command<'a>, AllocError>
+    ensures app { IfOk result (λ r. app_of r ≡ leaf_app (codes "load") load_options) }
+    ensures local { IfOk result (λ r. (fields_of r).has_globals ≡ false) }
+{
+    command_with(alloc, "load", LOAD_OPTIONS.as_slice())
+}
+
+fn keep_line<'a>(alloc: Global) -> Result<Command<'a>, AllocError>
+    ensures app { IfOk result (λ r. app_of r ≡ leaf_app (codes "keep") keep_options) }
+    ensures local { IfOk result (λ r. (fields_of r).has_globals ≡ false) }
+{
+    command_with(alloc, "keep", KEEP_OPTIONS.as_slice())
+}
+
+fn races_line<'a>(alloc: Global) -> Result<Command<'a>, AllocError>
+    ensures app { IfOk result (λ r. app_of r ≡ leaf_app (codes "races") races_options) }
+    ensures local { IfOk result (λ r. (fields_of r).has_globals ≡ false) }
+{
+    command_with(alloc, "races", RACES_OPTIONS.as_slice())
+}
+
+// Returns the command line: five commands, with neither help nor version.
 fn command_line<'a>(alloc: Global) -> Result<Command<'a>, AllocError>
     ensures { IfOk result (λ r. app_of r ≡ cli) }
 {
-    let run = command_with(alloc, "run", RUN_OPTIONS.as_slice())?;
-    let sim = command_with(alloc, "sim", SIM_OPTIONS.as_slice())?;
-    let load = command_with(alloc, "load", LOAD_OPTIONS.as_slice())?;
-    let keep = command_with(alloc, "keep", KEEP_OPTIONS.as_slice())?;
+    let run = run_line(alloc)?;
+    let sim = sim_line(alloc)?;
+    let load = load_line(alloc)?;
+    let keep = keep_line(alloc)?;
+    let races = races_line(alloc)?;
     Command::new(alloc, "cwstm")
         .no_binary_name(true)
         .disable_help_flag(true)
@@ -64,7 +103,8 @@ fn command_line<'a>(alloc: Global) -> Result<Command<'a>, AllocError>
         .subcommand(run)?
         .subcommand(sim)?
         .subcommand(load)?
-        .subcommand(keep)
+        .subcommand(keep)?
+        .subcommand(races)
 }
 
 /// Parses the words as clap does. It takes `-` as a word or a value, so it needs words that do not have it.
