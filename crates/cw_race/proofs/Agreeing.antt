@@ -12,10 +12,11 @@ use Rattle.cw_tree.proofs.Lists.{In}
 use Rattle.cw_tree.proofs.Members.{all_at, in_map}
 use Rattle.cw_tree.proofs.Maps.{rises_sorted}
 use Rattle.cw_tree.proofs.Rising.{rises_same}
+use Rattle.cw_tree.proofs.InOrder.DepthFirst.{by_number}
 use Rattle.cw_order.specs.Order.{position}
 use Rattle.cw_record.specs.Items.{same_block}
 use Rattle.cw_sp.specs.Orders.{english, stands_before}
-use Rattle.cw_sp.proofs.Orders.{by_number, leaf_there}
+use Rattle.cw_sp.proofs.Orders.{leaf_there}
 use Rattle.cw_sp.proofs.BothLines.{all_visited}
 use Rattle.cw_race.specs.declared.race.Race.{Race}
 use Rattle.cw_race.specs.Races.{is_access, writes, are_racing, IsFirstRace, AreRaces, RacesAgree, later_of}
