@@ -1,3 +1,4 @@
 mod cores;
 mod queries;
+mod rows;
 mod traces;

@@ -1,5 +1,6 @@
 ghost use Rattle.std.specs.Prelude.{◌≡◌, ◌<◌};
 
+use super::rows::compared;
 use cw_order::Steps;
 use cw_trace::{Early, Tier};
 use std::alloc::Global;
@@ -10,7 +11,7 @@ use std::test::Fail;
 
 /// A call of a tier: a fork with the word and column of a strand, or a split or merge of a fork.
 #[derive(Clone, Copy)]
-enum Call {
+pub(crate) enum Call {
     Fork(u64, u32),
     Split(u32),
     Merge(u32),
@@ -321,6 +322,8 @@ fn tell_all<L: Ledger, R: Abort>(rt: &R, alloc: Global, blank: Blank) -> Result<
         if room > 0 {
             let text = told(alloc, room, calls, &mut steps)?;
             assert!(rt; text.as_str() == wanted);
+            let count = compared(alloc, room, calls)?;
+            assert!(rt; count.wrong == 0);
         }
     }
     Ok(())
