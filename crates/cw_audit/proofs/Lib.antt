@@ -5,5 +5,12 @@ pub mod Order
 pub mod OneAnswer
 pub mod OverSource
 pub mod TwoBlocks
+pub mod Rising
+pub mod Spanning
+pub mod Making
+pub mod Taking
+pub mod Living
+pub mod Shortcuts
+pub mod Sweeping
 pub mod Together
 mod Worked

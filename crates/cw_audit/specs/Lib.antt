@@ -3,5 +3,10 @@ pub mod Parts
 pub mod Audits
 pub mod Laws
 pub mod TwoBlocks
+pub mod Latest
+pub mod Stamps
+pub mod Spans
+pub mod LiveAccesses
+pub mod Ended
 pub mod Together
 pub mod Worked

@@ -10,7 +10,13 @@ ghost use Rattle.cw_audit.specs.Together.{AccessesAreTogether, WrittenByPairs};
 ghost use Rattle.cw_audit.specs.TwoBlocks.{EndedByTwo};
 ghost use Rattle.cw_audit.specs.Worked.{BrokenSheets, SoundSheets};
 
+mod accesses;
+mod blocks;
 mod findings;
+mod kinds;
+mod latest;
+mod spans;
+mod stamps;
 
 pub use findings::Audit;
 
