@@ -12,5 +12,7 @@ pub mod Taking
 pub mod Living
 pub mod Shortcuts
 pub mod Sweeping
+pub mod Coming
+pub mod Remembered
 pub mod Together
 mod Worked

@@ -36,7 +36,7 @@ shortcuts_later t time later ways le w = record { len = w.len; each = λ n h. up
 
 module _ (t : List Node) (r : IsRooted t) where
   -- no block is on the way to the innermost block above a node
-  first_way : (time n : ℕ) → n < length t → (o : Option ℕ) → xparent t n ≡ o → EndedUpTo t time n o
+  pub first_way : (time n : ℕ) → n < length t → (o : Option ℕ) → xparent t n ≡ o → EndedUpTo t time n o
   first_way time zero h None e = λ a block over. absurd (cc over)
   first_way time zero h (Some b) e = absurd (cc e)
   first_way time (suc n) h o e = by o (sym (ap (λ ns. find (is_block t) (drop 1 ns)) (path_step t r (suc n) (omega arith) h)) ∙ e) where

@@ -8,5 +8,6 @@ pub mod Stamps
 pub mod Spans
 pub mod LiveAccesses
 pub mod Ended
+pub mod Later
 pub mod Together
 pub mod Worked

@@ -5,6 +5,7 @@ ghost use Rattle.cw_tree.specs.Journals.{FitsCells, fits_cells};
 ghost use Rattle.cw_tree.specs.Nodes.{all_nodes, below, is_node};
 ghost use Rattle.cw_record.specs.Coherent.{IsMemory};
 ghost use Rattle.cw_audit.specs.Journals.{ReadsAreRight};
+ghost use Rattle.cw_audit.specs.Parts.{AccessesHold};
 ghost use Rattle.cw_audit.specs.LiveAccesses.{all_live_accesses, cell_of, dated, is_access, is_live_access};
 
 use cw_base::OutOfMemory;
@@ -19,7 +20,7 @@ struct Dated {
 }
 
 /// Returns whether each access is of one of the first `count` cells.
-pub(crate) fn fit_cells(tree: &Tree, count: usize) -> bool
+fn fit_cells(tree: &Tree, count: usize) -> bool
     ensures { IsTrue result ↔ FitsCells tree.now count }
 {
     for n in 0..tree.nodes().len() as u32 {
@@ -149,7 +150,7 @@ pub(crate) fn written(tree: &Tree, n: u32) -> Option<i64>
 
 /// Makes the live accesses one after another on a memory that has the first values. Returns whether each read has what was left.
 /// Then the memory is as the run leaves it.
-pub(crate) fn make(tree: &Tree, accesses: &[u32], memory: &mut Vec<i64>) -> bool
+fn make(tree: &Tree, accesses: &[u32], memory: &mut Vec<i64>) -> bool
     requires accesses { accesses.now ≡ all_live_accesses tree.now }
     requires cells { FitsCells tree.now (length memory.old.items) }
     ensures reads { IsTrue result ↔ ReadsAreRight tree.now memory.old.items }
@@ -167,4 +168,17 @@ pub(crate) fn make(tree: &Tree, accesses: &[u32], memory: &mut Vec<i64>) -> bool
         memory[cell as usize] = written(tree, n).unwrap_or(before);
     }
     true
+}
+
+/// Decides part 2, given the live accesses, oldest first, and a memory that has the first values: whether each access is of a cell that
+/// is there, and live reads are right. Then the memory is as the run leaves it.
+pub(crate) fn accesses_hold(tree: &Tree, accesses: &[u32], memory: &mut Vec<i64>) -> bool
+    requires { accesses.now ≡ all_live_accesses tree.now }
+    ensures holds { IsTrue result ↔ AccessesHold tree.now memory.old.items }
+    ensures memory { IsTrue result → IsMemory tree.now memory.old.items memory.new.items }
+{
+    if !fit_cells(tree, memory.len()) {
+        return false;
+    }
+    make(tree, accesses, memory)
 }

@@ -122,7 +122,7 @@ fn has_ended(tree: &Tree, n: u32, time: u64) -> bool
 }
 
 /// For each node, returns the innermost block above it. Takes one pass over the nodes.
-fn blocks_above(alloc: Global, tree: &Tree) -> Result<Vec<Option<u32>>, OutOfMemory>
+pub(crate) fn blocks_above(alloc: Global, tree: &Tree) -> Result<Vec<Option<u32>>, OutOfMemory>
     ensures { IfOk result (λ v. v.items ≡ map (xparent tree.now) (all_nodes tree.now)) }
 {
     let count = tree.nodes().len();

@@ -1,8 +1,15 @@
 ghost use Rattle.std.specs.Prelude.{◌≡◌, ◌<◌, length};
-ghost use Rattle.cw_tree.specs.Nodes.{is_committed, is_tried};
+ghost use Rattle.cw_tree.specs.Nodes.{is_committed, is_strand, is_tried};
 ghost use Rattle.cw_tree.specs.Shape.{has_stamp, is_closed};
 
 use cw_tree::{BlockState, Kind, Tree};
+
+/// Returns whether a number is that of a strand of the tree.
+pub(crate) fn is_strand(tree: &Tree, n: u32) -> bool
+    ensures { result ≡ is_strand tree.now n }
+{
+    (n as usize) < tree.nodes().len() && tree.is_strand(n)
+}
 
 /// Returns whether a node is a refused access.
 pub(crate) fn is_tried(tree: &Tree, n: u32) -> bool

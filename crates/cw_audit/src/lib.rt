@@ -12,11 +12,15 @@ ghost use Rattle.cw_audit.specs.Worked.{BrokenSheets, SoundSheets};
 
 mod accesses;
 mod blocks;
+mod ending;
 mod findings;
 mod kinds;
 mod latest;
+mod limits;
+mod series;
 mod spans;
 mod stamps;
+mod words;
 
 pub use findings::Audit;
 
