@@ -14,5 +14,6 @@ pub mod Shortcuts
 pub mod Sweeping
 pub mod Coming
 pub mod Remembered
+pub mod Rolling
 pub mod Together
 mod Worked

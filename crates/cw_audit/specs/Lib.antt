@@ -9,5 +9,6 @@ pub mod Spans
 pub mod LiveAccesses
 pub mod Ended
 pub mod Later
+pub mod Victims
 pub mod Together
 pub mod Worked

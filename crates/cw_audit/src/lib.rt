@@ -20,6 +20,7 @@ mod limits;
 mod series;
 mod spans;
 mod stamps;
+mod victims;
 mod words;
 
 pub use findings::Audit;
