@@ -9,8 +9,11 @@ use Rattle.std.proofs.lemmas.Bool.{cases_lt, and_parts, and_from, and_left, and_
 use Rattle.std.proofs.lemmas.List.Folds.{list_any_at}
 use Rattle.std.proofs.lemmas.List.Sorted.{searched}
 use Rattle.cw_tree.specs.declared.node.Node.{Node}
+use Rattle.cw_tree.specs.declared.node.BlockState.{BlockState}
+use Rattle.cw_tree.specs.declared.node.BlockState.TheVariants.{Pending, Committed, Aborted}
+use Rattle.cw_tree.proofs.NodeKinds.{node_tells}
 use Rattle.cw_tree.specs.declared.conflict.Conflict.{Conflict}
-use Rattle.cw_tree.specs.Nodes.{stamp_of, is_block, is_aborted, is_tried}
+use Rattle.cw_tree.specs.Nodes.{is_aborted, is_aborted_state, is_block, is_block_kind, is_committed, is_committed_state, is_tried, stamp_of}
 use Rattle.cw_tree.specs.Series.{has_later}
 use Rattle.cw_tree.specs.Refusals.{victim_of, is_victim, names_victim, RollsBack}
 use Rattle.cw_tree.proofs.Lists.{In, any_in, any_from, all_in, all_from}
@@ -98,3 +101,14 @@ module _ (t : List Node) (cs : List Conflict) where
     by : (b : Bool) → (is_aborted t n && not (is_victim t cs n)) ≡ b → rolls_on t cs n ≡ true
     by false e = or_left (not (is_aborted t n && not (is_victim t cs n))) (not (has_later t n)) (not_from_false (is_aborted t n && not (is_victim t cs n)) e)
     by true e = or_right (not (is_aborted t n && not (is_victim t cs n))) (not (has_later t n)) (not_from_false (has_later t n) (w.aborted n there e))
+
+-- ## Closed blocks
+
+not_both : (k : Bool) (s : BlockState) → (k && is_aborted_state s) ≡ true → (k && is_committed_state s) ≡ false
+not_both true Aborted e = refl
+not_both true Pending e = absurd (cc e)
+not_both true Committed e = absurd (cc e)
+not_both false s e = absurd (cc e)
+
+pub aborted_not_committed : (t : List Node) (n : ℕ) → is_aborted t n ≡ true → is_committed t n ≡ false
+aborted_not_committed t = node_tells false t (λ x. is_block_kind x.kind && is_aborted_state x.state) (λ x. is_block_kind x.kind && is_committed_state x.state) (λ x. not_both (is_block_kind x.kind) x.state)

@@ -1,8 +1,10 @@
-//! Audits of record sheets: whether all that a sheet says fits together. Definitions and laws; no call audits yet.
+//! Audits of record sheets: whether all that a sheet says fits together. Definitions and laws, and inside the crate what decides some
+//! of the parts; no call audits yet.
 //! Use the laws to conclude from its parts that a sheet tells a coherent run, or from a coherent record that its sheet is sound.
 //! Contracts cite `specs/Audits.antt` (what an audit answers), over `specs/Parts.antt` (the parts) and `specs/Journals.antt` (the
 //! journals that a tree tells), and `specs/Laws.antt` (what the parts say together). `specs/TwoBlocks.antt` and `Together` are short
-//! ways to parts 3 and 7. `specs/Worked.antt` tries it all on examples.
+//! ways to parts 3 and 7. `specs/Worked.antt` tries it all on examples. `Stamps`, `Latest`, `LiveAccesses`, `Spans`, `Ended`, `Later`
+//! and `Victims` have what is computed on the way to deciding parts.
 #![tactic(auto)]
 
 ghost use Rattle.cw_audit.specs.Laws.{AuditsAreOne, CoherentAreSound, OnlyOutputsBreakOrder, OrderIsOutputs, PartsAreCoherence, RecordsByParts, SoundIsCoherence, SoundOverSource};
@@ -17,6 +19,7 @@ mod findings;
 mod kinds;
 mod latest;
 mod limits;
+mod refused;
 mod series;
 mod spans;
 mod stamps;

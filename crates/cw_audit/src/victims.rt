@@ -64,7 +64,7 @@ fn asker_is_last(tree: &Tree, conflict: &Conflict, laters: &[bool]) -> bool
 }
 
 /// Returns the begin stamps of the victims, rising, and 0 for each conflict without one.
-fn victims(alloc: Global, conflicts: &[Conflict]) -> Result<Vec<u64>, OutOfMemory>
+pub(crate) fn victims(alloc: Global, conflicts: &[Conflict]) -> Result<Vec<u64>, OutOfMemory>
     ensures sorted { IfOk result (λ v. IsNonDecreasing v.items) }
     ensures same { IfOk result (λ v. (s : ℕ) → is_among s v.items ≡ is_among s (victim_stamps conflicts.now)) }
 {
@@ -105,7 +105,7 @@ fn rolls_on(tree: &Tree, conflicts: &[Conflict], victims: &[u64], laters: &[bool
 }
 
 /// Returns whether a stamp is among some that rise.
-fn is_among(sorted: &[u64], stamp: u64) -> bool
+pub(crate) fn is_among(sorted: &[u64], stamp: u64) -> bool
     requires { IsNonDecreasing sorted.now }
     ensures { result ≡ is_among stamp sorted.now }
 {
