@@ -3,6 +3,7 @@ ghost use Rattle.cw_tree.specs.Accesses.{is_live};
 ghost use Rattle.cw_tree.specs.declared.node.Node.{Node};
 ghost use Rattle.cw_tree.specs.Nodes.{all_nodes, is_strand};
 ghost use Rattle.cw_tree.specs.Refusals.{MayFault};
+ghost use Rattle.cw_tree.specs.Shape.{NonePending};
 ghost use Rattle.cw_record.specs.Coherent.{HasMemory, IsMemory, halt_of};
 
 use crate::kinds::is_strand;
@@ -36,4 +37,16 @@ pub(crate) fn has_memory(end: &RecordEnd, left: &[i64]) -> bool
         RecordEnd::Finished { memory, .. } => memory.as_slice() == left,
         _ => true,
     }
+}
+
+/// Returns whether no block is left pending.
+pub(crate) fn none_pending(tree: &Tree) -> bool
+    ensures { IsTrue result ↔ NonePending tree.now }
+{
+    for n in 0..tree.nodes().len() as u32 {
+        if tree.is_pending(n) {
+            return false;
+        }
+    }
+    true
 }

@@ -19,6 +19,7 @@ mod findings;
 mod kinds;
 mod latest;
 mod limits;
+mod program;
 mod refused;
 mod series;
 mod spans;
