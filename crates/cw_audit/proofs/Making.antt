@@ -23,7 +23,7 @@ use Rattle.cw_record.specs.Coherent.{IsMemory}
 use Rattle.cw_record.proofs.Lists.{filter_filter}
 use Rattle.cw_serial.proofs.Numbers.{get_some}
 use Rattle.cw_audit.specs.Journals.{ReadWhatWasLeft, ReadsAreRight}
-use Rattle.cw_audit.specs.LiveAccesses.{is_access_kind, is_access, is_live_access, all_live_accesses, cell_in, cell_at, cell_of}
+use Rattle.cw_audit.specs.LiveAccesses.{is_access_kind, is_access, is_live_access, all_live_accesses, cell_in, cell_at, cell_accessed}
 
 -- ## Cells of accesses
 
@@ -71,13 +71,13 @@ fit_at m c (Some x) f e = fit_kind m c x.kind f e
 
 module _ (t : List Node) where
   -- an access touches its cell and no other
-  pub touches_is : (n c d : ℕ) → cell_of t n ≡ Some d → touches t c n ≡ nat_eq d c
+  pub touches_is : (n c d : ℕ) → cell_accessed t n ≡ Some d → touches t c n ≡ nat_eq d c
   touches_is n c d e = touched_at c (slice_get t n) ∙ ap (λ o. option_map_or (λ d. nat_eq d c) o false) e
 
-  pub touches_none : (n c : ℕ) → cell_of t n ≡ None → touches t c n ≡ false
+  pub touches_none : (n c : ℕ) → cell_accessed t n ≡ None → touches t c n ≡ false
   touches_none n c e = touched_at c (slice_get t n) ∙ ap (λ o. option_map_or (λ d. nat_eq d c) o false) e
 
-  pub cell_fits : (k n c : ℕ) → FitsCells t k → n < length t → cell_of t n ≡ Some c → c < k
+  pub cell_fits : (k n c : ℕ) → FitsCells t k → n < length t → cell_accessed t n ≡ Some c → c < k
   cell_fits k n c fits there e = fit_at k c (slice_get t n) (fits n there) e
 
   -- ## All live accesses
@@ -129,14 +129,14 @@ module _ (t : List Node) where
   cell_here taken n c e = filter-append (touches t c) taken (n ∷ []) ∙ ap (λ b. filter (touches t c) taken ++ cond b (n ∷ []) []) e
 
   -- what is no access leaves all as it was
-  pub made_other : (first : List ℤ) (taken : List ℕ) (memory : List ℤ) (n : ℕ) → Made first taken memory → cell_of t n ≡ None → Made first (taken ++ n ∷ []) memory
+  pub made_other : (first : List ℤ) (taken : List ℕ) (memory : List ℤ) (n : ℕ) → Made first taken memory → cell_accessed t n ≡ None → Made first (taken ++ n ∷ []) memory
   made_other first taken memory n w e = record {
     len = w.len;
     reads = λ c v f. (let P : List ℕ → Type 0 = λ us. ReadWhatWasLeft t v us in subst P (sym (cell_past taken n c (touches_none n c e))) (w.reads c v f));
     values = λ c v f. (let P : List ℕ → Type 0 = λ us. slice_get memory c ≡ Some (cell_value v (map (written t) us)) in subst P (sym (cell_past taken n c (touches_none n c e))) (w.values c v f));
   }
 
-  module _ (first : List ℤ) (taken : List ℕ) (memory : List ℤ) (n d : ℕ) (before : ℤ) (w : Made first taken memory) (cell : cell_of t n ≡ Some d) (low : d < length memory) (was : slice_get memory d ≡ Some before) where
+  module _ (first : List ℤ) (taken : List ℕ) (memory : List ℤ) (n d : ℕ) (before : ℤ) (w : Made first taken memory) (cell : cell_accessed t n ≡ Some d) (low : d < length memory) (was : slice_get memory d ≡ Some before) where
     -- the value that was left in the cell
     before_is : (v : ℤ) → slice_get first d ≡ Some v → before ≡ cell_value v (map (written t) (filter (touches t d) taken))
     before_is v f = same_Some before _ (sym was ∙ w.values d v f)

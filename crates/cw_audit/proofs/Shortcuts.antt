@@ -14,14 +14,14 @@ use Rattle.cw_tree.proofs.Walks.Climbs.{path_step}
 use Rattle.cw_tree.proofs.Walks.Ancestors.{ancestor_above, above_ancestor, above_parent}
 use Rattle.cw_tree.proofs.Walks.Upward.{find_found, find_none}
 use Rattle.cw_tree.proofs.NextNodes.Before.{above_down}
-use Rattle.cw_audit.specs.Ended.{has_ended, EndedUpTo, AreShortcuts}
+use Rattle.cw_audit.specs.Ended.{has_ended_by, EndedUpTo, AreShortcuts}
 
 -- the block that a way leads to is there
 pub way_there : (t : List Node) (time n b : ℕ) → EndedUpTo t time n (Some b) → b < length t
 way_there t time n b w = node_there (λ x. is_block_kind x.kind) t b w.0
 
 -- what has ended stays so
-ended_later : (t : List Node) (time later b : ℕ) → time ≤ later → has_ended t time b ≡ true → has_ended t later b ≡ true
+ended_later : (t : List Node) (time later b : ℕ) → time ≤ later → has_ended_by t time b ≡ true → has_ended_by t later b ≡ true
 ended_later t time later b le e =
     let z = and_parts (is_committed t b) (nat_lt (end_of t b) time) e in
     let less : end_of t b < time = ltb-true (end_of t b) time z.1 in
@@ -62,32 +62,32 @@ module _ (t : List Node) (r : IsRooted t) where
   }
 
   -- from a block that has ended it goes on as from there
-  pub on_from : (time n b : ℕ) (o : Option ℕ) → n < length t → EndedUpTo t time n (Some b) → has_ended t time b ≡ true → EndedUpTo t time b o → EndedUpTo t time n o
+  pub on_from : (time n b : ℕ) (o : Option ℕ) → n < length t → EndedUpTo t time n (Some b) → has_ended_by t time b ≡ true → EndedUpTo t time b o → EndedUpTo t time n o
   on_from time n b None h w ended g = (λ a block over. elim (cases_Bool (is_ancestor t a b)) [ inl e ↦ on a block e (cases_eq b a) | inr e ↦ w.2 a block over e ]) where
-    on : (a : ℕ) → is_block t a ≡ true → is_ancestor t a b ≡ true → (b ≡ a) ⊎ (b ≡ a → ⊥) → has_ended t time a ≡ true
-    on a block e (inl same) = let P : ℕ → Type 0 = λ x. has_ended t time x ≡ true in subst P same ended
+    on : (a : ℕ) → is_block t a ≡ true → is_ancestor t a b ≡ true → (b ≡ a) ⊎ (b ≡ a → ⊥) → has_ended_by t time a ≡ true
+    on a block e (inl same) = let P : ℕ → Type 0 = λ x. has_ended_by t time x ≡ true in subst P same ended
     on a block e (inr ne) = g a block (sym (ancestor_above t a b ne) ∙ e)
   on_from time n b (Some c) h w ended g = (g.0, above_down t r c b n h g.1 (above_ancestor t b n w.1), λ a block over past. elim (cases_Bool (is_ancestor t a b)) [ inl e ↦ on a block e past (cases_eq b a) | inr e ↦ w.2 a block over e ]) where
-    on : (a : ℕ) → is_block t a ≡ true → is_ancestor t a b ≡ true → is_ancestor t a c ≡ false → (b ≡ a) ⊎ (b ≡ a → ⊥) → has_ended t time a ≡ true
-    on a block e past (inl same) = let P : ℕ → Type 0 = λ x. has_ended t time x ≡ true in subst P same ended
+    on : (a : ℕ) → is_block t a ≡ true → is_ancestor t a b ≡ true → is_ancestor t a c ≡ false → (b ≡ a) ⊎ (b ≡ a → ⊥) → has_ended_by t time a ≡ true
+    on a block e past (inl same) = let P : ℕ → Type 0 = λ x. has_ended_by t time x ≡ true in subst P same ended
     on a block e past (inr ne) = g.2 a block (sym (ancestor_above t a b ne) ∙ e) past
 
   -- a walk from a node came to node `at`, past blocks that have ended
   pub data Came (time n : ℕ) : (at : ℕ) → Type 0 where
     here : {at : ℕ} → at ≡ n → Came time n at
-    past : {at : ℕ} → EndedUpTo t time n (Some at) → has_ended t time at ≡ true → Came time n at
+    past : {at : ℕ} → EndedUpTo t time n (Some at) → has_ended_by t time at ≡ true → Came time n at
 
   pub came_here : (time n : ℕ) → Came time n n
   came_here time n = here refl
 
-  pub came_past : (time n at : ℕ) → EndedUpTo t time n (Some at) → has_ended t time at ≡ true → Came time n at
+  pub came_past : (time n at : ℕ) → EndedUpTo t time n (Some at) → has_ended_by t time at ≡ true → Came time n at
   came_past time n at w ended = past w ended
 
   pub came_on : (time n at : ℕ) (o : Option ℕ) → n < length t → Came time n at → EndedUpTo t time at o → EndedUpTo t time n o
   came_on time n at o h (here e) g = let P : ℕ → Type 0 = λ x. EndedUpTo t time x o in subst P e g
   came_on time n at o h (past w ended) g = on_from time n at o h w ended g
 
-  pub shortened : (time : ℕ) (ways : List (Option ℕ)) (at b : ℕ) (o : Option ℕ) → AreShortcuts t time ways → at < length t → b < length t → get_or ways at None ≡ Some b → has_ended t time b ≡ true → o ≡ get_or ways b None
+  pub shortened : (time : ℕ) (ways : List (Option ℕ)) (at b : ℕ) (o : Option ℕ) → AreShortcuts t time ways → at < length t → b < length t → get_or ways at None ≡ Some b → has_ended_by t time b ≡ true → o ≡ get_or ways b None
       → AreShortcuts t time (set ways at o)
   shortened time ways at b o w h there way ended is = record {
     len = length-set ways at o ∙ w.len;
@@ -112,7 +112,7 @@ module _ (t : List Node) (r : IsRooted t) where
         let y = and_parts (is_block t b) (is_above t b u) z.0 in
         (y.0, y.1, not-true (is_above t b v) z.1)
 
-    both : (b : ℕ) → has_ended t (stamp_of t v) b ≡ true → (is_committed t b ≡ true) × (end_of t b < stamp_of t v)
+    both : (b : ℕ) → has_ended_by t (stamp_of t v) b ≡ true → (is_committed t b ≡ true) × (end_of t b < stamp_of t v)
     both b e = let z = and_parts (is_committed t b) (nat_lt (end_of t b) (stamp_of t v)) e in (z.0, ltb-true (end_of t b) (stamp_of t v) z.1)
 
     pub none_open : EndedUpTo t (stamp_of t v) u None → EndedBetween t u v
@@ -126,7 +126,7 @@ module _ (t : List Node) (r : IsRooted t) where
           by b c f (inl same) aside over = let P : ℕ → Type 0 = λ x. is_above t x v ≡ true in absurd (cc (aside, subst P same over))
           by b c f (inr ne) aside over = absurd (cc (aside, above_down t r b c v hv (sym (ancestor_above t b c ne) ∙ f) (above_ancestor t c v over)))
 
-    pub open_aside : (c : ℕ) → EndedUpTo t (stamp_of t v) u (Some c) → has_ended t (stamp_of t v) c ≡ false → is_above t c v ≡ false → EndedBetween t u v → ⊥
+    pub open_aside : (c : ℕ) → EndedUpTo t (stamp_of t v) u (Some c) → has_ended_by t (stamp_of t v) c ≡ false → is_above t c v ≡ false → EndedBetween t u v → ⊥
     open_aside c w unended aside all =
         let there = node_there (λ x. is_block_kind x.kind) t c w.0 in
         let z = all c there (and_from (is_block t c && is_above t c u) (not (is_above t c v)) (and_from (is_block t c) (is_above t c u) w.0 w.1) (not_from_false (is_above t c v) aside)) in

@@ -11,7 +11,7 @@ use Rattle.cw_tree.specs.Nodes.{stamp_of, touches, all_nodes}
 use Rattle.cw_tree.specs.Accesses.{live_accesses}
 use Rattle.cw_tree.specs.Journals.{EndedBetween, AllEndedBetween, JournalsEnded}
 use Rattle.cw_tree.proofs.Sorts.{Sorted, sorted_by_key}
-use Rattle.cw_audit.specs.LiveAccesses.{is_live_access, all_live_accesses, cell_of}
+use Rattle.cw_audit.specs.LiveAccesses.{is_live_access, all_live_accesses, cell_accessed}
 use Rattle.cw_audit.specs.Ended.{AreShortcuts}
 use Rattle.cw_audit.proofs.Shortcuts.{shortcuts_later}
 use Rattle.cw_audit.proofs.Making.{touches_is, touches_none, of_cell, cell_past, cell_here}
@@ -66,7 +66,7 @@ module _ (t : List Node) where
     there = λ c u h f. absurd (cc (f, ap (λ xs. get_or xs c None) e ∙ get_or-replicate cells c None None h));
   }
 
-  pub swept_other : (cells : ℕ) (taken : List ℕ) (last : List (Option ℕ)) (n : ℕ) → Swept cells taken last → cell_of t n ≡ None → Swept cells (taken ++ n ∷ []) last
+  pub swept_other : (cells : ℕ) (taken : List ℕ) (last : List (Option ℕ)) (n : ℕ) → Swept cells taken last → cell_accessed t n ≡ None → Swept cells (taken ++ n ∷ []) last
   swept_other cells taken last n w e = record {
     len = w.len;
     ended = λ c h. (let P : List ℕ → Type 0 = λ us. AllEndedBetween t us in subst P (sym (cell_past t taken n c (touches_none t n c e))) (w.ended c h));
@@ -74,7 +74,7 @@ module _ (t : List Node) where
     there = w.there;
   }
 
-  module _ (cells : ℕ) (taken : List ℕ) (last : List (Option ℕ)) (n d : ℕ) (w : Swept cells taken last) (cell : cell_of t n ≡ Some d) (low : d < cells) where
+  module _ (cells : ℕ) (taken : List ℕ) (last : List (Option ℕ)) (n d : ℕ) (w : Swept cells taken last) (cell : cell_accessed t n ≡ Some d) (low : d < cells) where
     here : filter (touches t d) (taken ++ n ∷ []) ≡ filter (touches t d) taken ++ n ∷ []
     here = cell_here t taken n d (touches_is t n d d cell ∙ eq-eqb d d refl)
 

@@ -33,8 +33,8 @@ cell_at None = None
 cell_at (Some x) = cell_in x.kind
 
 -- the cell that node n reads or writes
-abbrev pub cell_of : List Node → ℕ → Option ℕ
-cell_of t n = cell_at (slice_get t n)
+abbrev pub cell_accessed : List Node → ℕ → Option ℕ
+cell_accessed t n = cell_at (slice_get t n)
 
 -- an access with its stamp
 abbrev pub dated : List Node → ℕ → Dated

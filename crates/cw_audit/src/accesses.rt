@@ -6,7 +6,7 @@ ghost use Rattle.cw_tree.specs.Nodes.{all_nodes, below, is_node};
 ghost use Rattle.cw_record.specs.Coherent.{IsMemory};
 ghost use Rattle.cw_audit.specs.Journals.{ReadsAreRight};
 ghost use Rattle.cw_audit.specs.Parts.{AccessesHold};
-ghost use Rattle.cw_audit.specs.LiveAccesses.{all_live_accesses, cell_of, dated, is_access, is_live_access};
+ghost use Rattle.cw_audit.specs.LiveAccesses.{all_live_accesses, cell_accessed, dated, is_access, is_live_access};
 
 use cw_base::OutOfMemory;
 use cw_tree::{Kind, Tree};
@@ -115,9 +115,9 @@ fn is_access(tree: &Tree, n: u32) -> bool
 }
 
 /// Returns the cell that a node reads or writes, if it does.
-pub(crate) fn cell_of(tree: &Tree, n: u32) -> Option<u32>
+pub(crate) fn cell_accessed(tree: &Tree, n: u32) -> Option<u32>
     requires { n < length tree.now }
-    ensures { result ≡ cell_of tree.now n }
+    ensures { result ≡ cell_accessed tree.now n }
 {
     match tree.node(n).kind {
         Kind::Read { cell, .. } => Some(cell),
@@ -158,7 +158,7 @@ fn make(tree: &Tree, accesses: &[u32], memory: &mut Vec<i64>) -> bool
 {
     for i in 0..accesses.len() {
         let n = accesses[i];
-        let Some(cell) = cell_of(tree, n) else {
+        let Some(cell) = cell_accessed(tree, n) else {
             continue;
         };
         let before = memory[cell as usize];

@@ -2,11 +2,11 @@ ghost use Rattle.std.specs.Prelude.{◌≡◌, ◌↔◌, ℕ, ◌<◌, false, I
 ghost use Rattle.cw_tree.specs.Journals.{EndedBetween, FitsCells, JournalsEnded};
 ghost use Rattle.cw_tree.specs.Nodes.{all_nodes, below, end_of, stamp_of};
 ghost use Rattle.cw_tree.specs.Walks.{xparent};
-ghost use Rattle.cw_audit.specs.Ended.{AreShortcuts, EndedUpTo, has_ended};
+ghost use Rattle.cw_audit.specs.Ended.{AreShortcuts, EndedUpTo, has_ended_by};
 ghost use Rattle.cw_audit.specs.LiveAccesses.{all_live_accesses};
 ghost use Rattle.cw_audit.specs.Spans.{AreSpans};
 
-use crate::accesses::cell_of;
+use crate::accesses::cell_accessed;
 use crate::kinds::is_committed;
 use crate::spans::Spans;
 use cw_base::OutOfMemory;
@@ -33,7 +33,7 @@ pub(crate) fn blocks_hold(
     let mut last: Vec<Option<u32>> = vec![in alloc; None; cells]?;
     for i in 0..accesses.len() {
         let next = accesses[i];
-        let Some(cell) = cell_of(tree, next) else {
+        let Some(cell) = cell_accessed(tree, next) else {
             continue;
         };
         if !may_follow(tree, &spans, &mut ways, last[cell as usize], next) {
@@ -93,7 +93,7 @@ fn ended_between(
 fn first_open(tree: &Tree, ways: &mut Vec<Option<u32>>, node: u32, time: u64) -> Option<u32>
     requires node { node < length tree.now }
     requires ways { AreShortcuts tree.now time ways.old.items }
-    ensures open { IfSome result (λ b. has_ended tree.now time b ≡ false) }
+    ensures open { IfSome result (λ b. has_ended_by tree.now time b ≡ false) }
     ensures there { IfSome result (λ b. b < length tree.now) }
     ensures ended { EndedUpTo tree.now time node result }
     ensures ways { AreShortcuts tree.now time ways.new.items }
@@ -105,7 +105,7 @@ fn first_open(tree: &Tree, ways: &mut Vec<Option<u32>>, node: u32, time: u64) ->
         let Some(block) = ways[at as usize] else {
             return None;
         };
-        if !has_ended(tree, block, time) {
+        if !has_ended_by(tree, block, time) {
             return Some(block);
         }
         ways[at as usize] = ways[block as usize];
@@ -114,9 +114,9 @@ fn first_open(tree: &Tree, ways: &mut Vec<Option<u32>>, node: u32, time: u64) ->
 }
 
 /// Returns whether a node is a block that was committed before this time.
-fn has_ended(tree: &Tree, n: u32, time: u64) -> bool
+fn has_ended_by(tree: &Tree, n: u32, time: u64) -> bool
     requires { n < length tree.now }
-    ensures { result ≡ has_ended tree.now time n }
+    ensures { result ≡ has_ended_by tree.now time n }
 {
     is_committed(tree, n) && tree.node(n).end < time
 }

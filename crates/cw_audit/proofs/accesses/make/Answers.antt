@@ -4,13 +4,13 @@ use Rattle.std.proofs.lemmas.Int.{to_z-of_z}
 use Rattle.std.proofs.lemmas.List.{take_more, take_all}
 use Rattle.std.proofs.lemmas.Option.{slice_get_read}
 use Rattle.cw_tree.specs.Accesses.{read, written}
-use Rattle.cw_audit.specs.LiveAccesses.{all_live_accesses, cell_of}
+use Rattle.cw_audit.specs.LiveAccesses.{all_live_accesses, cell_accessed}
 use Rattle.cw_audit.proofs.Making.{Made, access_there, cell_fits, made_other, made_here, made_wrong, made_reads, made_memory}
 use Rattle.cw_audit.proofs.accesses.make.Goals as goal
 use Rattle.cw_audit.proofs.Taking.{split_at}
 
-pub cell_of-requires : goal.cell_of-requires
-cell_of-requires c =
+pub cell_accessed-requires : goal.cell_accessed-requires
+cell_accessed-requires c =
     let P : List ℕ → Type 0 = λ xs. get_or xs c.loop-i.i 0 < length c.args.tree.now in
     subst P (sym c.requires.accesses) (access_there c.args.tree.now c.loop-i.i (omega (arith, ap length c.requires.accesses)))
 
@@ -32,7 +32,7 @@ index-before-requires c =
     let there : n < length t = subst P (sym c.requires.accesses) (access_there t c.loop-i.i (omega (arith, ap length c.requires.accesses))) in
     let len = c.loop-i.invariant.len in
     let ok = c.loop-i.memory.ok in
-    omega (arith, cell_fits t (length c.args.memory.now.items) n c.in-Some.cell c.requires.cells there (sym c.cell_of.ensures ∙ c.in-Some.is), ok.0)
+    omega (arith, cell_fits t (length c.args.memory.now.items) n c.in-Some.cell c.requires.cells there (sym c.cell_accessed.ensures ∙ c.in-Some.is), ok.0)
 
 pub index_mut-requires : goal.index_mut-requires
 index_mut-requires c =
@@ -42,7 +42,7 @@ index_mut-requires c =
     let there : n < length t = subst P (sym c.requires.accesses) (access_there t c.loop-i.i (omega (arith, ap length c.requires.accesses))) in
     let len = c.loop-i.invariant.len in
     let ok = c.loop-i.memory.ok in
-    omega (arith, cell_fits t (length c.args.memory.now.items) n c.in-Some.cell c.requires.cells there (sym c.cell_of.ensures ∙ c.in-Some.is), ok.0)
+    omega (arith, cell_fits t (length c.args.memory.now.items) n c.in-Some.cell c.requires.cells there (sym c.cell_accessed.ensures ∙ c.in-Some.is), ok.0)
 
 pub loop-i-preserved-in_default : goal.loop-i-preserved-in_default
 loop-i-preserved-in_default c =
@@ -51,7 +51,7 @@ loop-i-preserved-in_default c =
     let i = c.loop-i.i in
     let low : i < length xs = omega arith in
     let P : List ℕ → Type 0 = λ ys. Made t c.args.memory.now.items ys c.loop-i.memory.items in
-    subst P (sym (take_more xs i 0 low)) (made_other t c.args.memory.now.items (take i xs) c.loop-i.memory.items (get_or xs i 0) c.loop-i.invariant (sym c.cell_of.ensures ∙ search rules))
+    subst P (sym (take_more xs i 0 low)) (made_other t c.args.memory.now.items (take i xs) c.loop-i.memory.items (get_or xs i 0) c.loop-i.invariant (sym c.cell_accessed.ensures ∙ search rules))
 
 pub loop-i-preserved : goal.loop-i-preserved
 loop-i-preserved c =
@@ -66,7 +66,7 @@ loop-i-preserved c =
     let Q : List ℕ → Type 0 = λ ys. get_or ys i 0 < length t in
     let there : n < length t = subst Q (sym c.requires.accesses) (access_there t i (omega (arith, ap length c.requires.accesses))) in
     let len = c.loop-i.invariant.len in
-    let cell : cell_of t n ≡ Some d = sym c.cell_of.ensures ∙ c.in-Some.is in
+    let cell : cell_accessed t n ≡ Some d = sym c.cell_accessed.ensures ∙ c.in-Some.is in
     let fits : d < length memory = omega (arith, cell_fits t (length first) n d c.requires.cells there cell) in
     let was : slice_get memory d ≡ Some c.index-before.result.now = slice_get_read memory (length memory) d c.index-before.result.now refl fits c.index-before.ensures in
     let had : SFits w64 c.index-before.result.now = search rules in
@@ -95,7 +95,7 @@ returns-then-unwrap_or-before-clause-reads c =
     let Q : List ℕ → Type 0 = λ ys. get_or ys i 0 < length t in
     let there : n < length t = subst Q (sym c.requires.accesses) (access_there t i (omega (arith, ap length c.requires.accesses))) in
     let len = c.loop-i.invariant.len in
-    let cell : cell_of t n ≡ Some d = sym c.cell_of.ensures ∙ c.in-Some.is in
+    let cell : cell_accessed t n ≡ Some d = sym c.cell_accessed.ensures ∙ c.in-Some.is in
     let fits : d < length memory = omega (arith, cell_fits t (length first) n d c.requires.cells there cell) in
     let was : slice_get memory d ≡ Some c.index-before.result.now = slice_get_read memory (length memory) d c.index-before.result.now refl fits c.index-before.ensures in
     let had : SFits w64 c.index-before.result.now = search rules in

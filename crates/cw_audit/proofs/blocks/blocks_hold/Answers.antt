@@ -2,7 +2,7 @@ use Rattle.std.proofs.Common.{◌≡◌, ℕ, suc, ◌<◌, List, length, take, 
 use Rattle.std.proofs.lemmas.List.{take_more, take_all, get_or_read}
 use Rattle.cw_tree.specs.Nodes.{stamp_of}
 use Rattle.cw_tree.specs.Journals.{EndedBetween}
-use Rattle.cw_audit.specs.LiveAccesses.{all_live_accesses, cell_of}
+use Rattle.cw_audit.specs.LiveAccesses.{all_live_accesses, cell_accessed}
 use Rattle.cw_audit.proofs.Making.{access_there, cell_fits}
 use Rattle.cw_audit.proofs.Taking.{split_at}
 use Rattle.cw_audit.proofs.Shortcuts.{first_ways}
@@ -17,8 +17,8 @@ loop-i-init c =
       ways = λ h. first_ways t c.nodes.ensures.numbered.rooted (stamp_of t (get_or c.args.accesses.now 0 0)) c.in_ok-ways.ways.items c.in_ok-ways.ensures;
     }
 
-pub cell_of-requires : goal.cell_of-requires
-cell_of-requires c =
+pub cell_accessed-requires : goal.cell_accessed-requires
+cell_accessed-requires c =
     let P : List ℕ → Type 0 = λ xs. get_or xs c.loop-i.i 0 < length c.args.tree.now in
     subst P (sym c.requires.accesses) (access_there c.args.tree.now c.loop-i.i (omega (arith, ap length c.requires.accesses)))
 
@@ -36,7 +36,7 @@ loop-i-preserved-in_default c =
     let w = c.loop-i.invariant in
     let P : List ℕ → Type 0 = λ ys. Swept t c.args.cells ys c.loop-i.last.items in
     record {
-      swept = subst P (sym (take_more xs i 0 low)) (swept_other t c.args.cells (take i xs) c.loop-i.last.items (get_or xs i 0) w.swept (sym c.cell_of.ensures ∙ search rules));
+      swept = subst P (sym (take_more xs i 0 low)) (swept_other t c.args.cells (take i xs) c.loop-i.last.items (get_or xs i 0) w.swept (sym c.cell_accessed.ensures ∙ search rules));
       ways = λ h. ways_on t xs c.loop-i.ways.items i c.requires.accesses h (w.ways low);
     }
 
@@ -47,7 +47,7 @@ index_mut-requires c =
     let P : List ℕ → Type 0 = λ xs. get_or xs c.loop-i.i 0 < length t in
     let there : n < length t = subst P (sym c.requires.accesses) (access_there t c.loop-i.i (omega (arith, ap length c.requires.accesses))) in
     let ok = c.loop-i.last.ok in
-    omega (arith, c.loop-i.invariant.swept.len, cell_fits t c.args.cells n c.in-Some.cell c.requires.cells there (sym c.cell_of.ensures ∙ c.in-Some.is), ok.0)
+    omega (arith, c.loop-i.invariant.swept.len, cell_fits t c.args.cells n c.in-Some.cell c.requires.cells there (sym c.cell_accessed.ensures ∙ c.in-Some.is), ok.0)
 
 pub returns-then-not-may_follow : goal.returns-then-not-may_follow
 returns-then-not-may_follow c =
@@ -61,7 +61,7 @@ returns-then-not-may_follow c =
     let low : i < length xs = omega arith in
     let P : List ℕ → Type 0 = λ ys. get_or ys i 0 < length t in
     let there : n < length t = subst P (sym c.requires.accesses) (access_there t i (omega (arith, ap length c.requires.accesses))) in
-    let cell : cell_of t n ≡ Some d = sym c.cell_of.ensures ∙ c.in-Some.is in
+    let cell : cell_accessed t n ≡ Some d = sym c.cell_accessed.ensures ∙ c.in-Some.is in
     let fits : d < c.args.cells = cell_fits t c.args.cells n d c.requires.cells there cell in
     let read : c.index.result.now ≡ get_or last d None = get_or_read last d c.index.result.now (omega (arith, w.len, fits)) c.index.ensures None in (
       λ e. absurd (cc e),
@@ -80,7 +80,7 @@ loop-i-preserved c =
     let low : i < length xs = omega arith in
     let P : List ℕ → Type 0 = λ ys. get_or ys i 0 < length t in
     let there : n < length t = subst P (sym c.requires.accesses) (access_there t i (omega (arith, ap length c.requires.accesses))) in
-    let cell : cell_of t n ≡ Some d = sym c.cell_of.ensures ∙ c.in-Some.is in
+    let cell : cell_accessed t n ≡ Some d = sym c.cell_accessed.ensures ∙ c.in-Some.is in
     let fits : d < c.args.cells = cell_fits t c.args.cells n d c.requires.cells there cell in
     let read : c.index.result.now ≡ get_or last d None = get_or_read last d c.index.result.now (omega (arith, w.len, fits)) c.index.ensures None in
     let good : (u : ℕ) → get_or last d None ≡ Some u → EndedBetween t u n = λ u is. c.may_follow.ensures.ended.0 c.if-not-may_follow.false u (read ∙ is) in

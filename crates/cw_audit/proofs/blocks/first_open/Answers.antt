@@ -1,7 +1,7 @@
 use Rattle.std.proofs.Common.{◌≡◌, ℕ, ◌<◌, length, get_or, sym, ◌∙◌, subst, arith, rules, Option, Some, None, true}
 use Rattle.std.proofs.lemmas.List.{get_or_read}
 use Rattle.cw_tree.proofs.NextNodes.Before.{above_less}
-use Rattle.cw_audit.specs.Ended.{EndedUpTo, has_ended}
+use Rattle.cw_audit.specs.Ended.{EndedUpTo, has_ended_by}
 use Rattle.cw_audit.proofs.Shortcuts.{way_there, came_here, came_past, came_on, shortened}
 use Rattle.cw_audit.proofs.blocks.first_open.Goals as goal
 
@@ -19,8 +19,8 @@ returns-in_default-clause-ended c =
     let P : Option ℕ → Type 0 = λ o. EndedUpTo t c.args.time at o in
     came_on t w.rooted c.args.time c.args.node at None c.requires.node (w.came w.rooted) (subst P (sym way ∙ none) (w.ways.each at w.there))
 
-pub has_ended-requires : goal.has_ended-requires
-has_ended-requires c =
+pub has_ended_by-requires : goal.has_ended_by-requires
+has_ended_by-requires c =
     let t = c.args.tree.now in
     let w = c.loop-block.invariant in
     let at = c.loop-block.at in
@@ -29,8 +29,8 @@ has_ended-requires c =
     let P : Option ℕ → Type 0 = λ o. EndedUpTo t c.args.time at o in
     way_there t c.args.time at c.in-Some.block (subst P (sym way ∙ c.in-Some.is) (w.ways.each at w.there))
 
-pub returns-then-not-has_ended-clause-there : goal.returns-then-not-has_ended-clause-there
-returns-then-not-has_ended-clause-there c =
+pub returns-then-not-has_ended_by-clause-there : goal.returns-then-not-has_ended_by-clause-there
+returns-then-not-has_ended_by-clause-there c =
     let t = c.args.tree.now in
     let w = c.loop-block.invariant in
     let at = c.loop-block.at in
@@ -39,8 +39,8 @@ returns-then-not-has_ended-clause-there c =
     let P : Option ℕ → Type 0 = λ o. EndedUpTo t c.args.time at o in
     way_there t c.args.time at c.in-Some.block (subst P (sym way ∙ c.in-Some.is) (w.ways.each at w.there))
 
-pub returns-then-not-has_ended-clause-ended : goal.returns-then-not-has_ended-clause-ended
-returns-then-not-has_ended-clause-ended c =
+pub returns-then-not-has_ended_by-clause-ended : goal.returns-then-not-has_ended_by-clause-ended
+returns-then-not-has_ended_by-clause-ended c =
     let t = c.args.tree.now in
     let w = c.loop-block.invariant in
     let at = c.loop-block.at in
@@ -82,7 +82,7 @@ loop-block-preserved c =
     let P : Option ℕ → Type 0 = λ o. EndedUpTo t c.args.time at o in
     let up : EndedUpTo t c.args.time at (Some b) = subst P (sym way ∙ c.in-Some.is) (w.ways.each at w.there) in
     let there : b < length t = way_there t c.args.time at b up in
-    let ended : has_ended t c.args.time b ≡ true = sym c.has_ended.ensures ∙ c.if-not-has_ended.false in
+    let ended : has_ended_by t c.args.time b ≡ true = sym c.has_ended_by.ensures ∙ c.if-not-has_ended_by.false in
     let next : c.index-in-loop-block.result.now ≡ get_or ways b None = get_or_read ways b c.index-in-loop-block.result.now (omega (arith, w.ways.len)) c.index-in-loop-block.ensures None in
     record {
       there = there;
