@@ -19,7 +19,7 @@ source_of() {
   esac
 }
 
-limits=(--fuel 1000000000 --size 100000000)
+limits=(--fuel 1000000000 --size 10000000)
 for shape in 'one strand' 'spawned strands' 'nested strands' 'one cell read'; do
   small=
   for count in 100000 1000000; do
