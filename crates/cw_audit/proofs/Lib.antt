@@ -16,4 +16,10 @@ pub mod Coming
 pub mod Remembered
 pub mod Rolling
 pub mod Together
+pub mod Backs
+pub mod Settling
+pub mod Going
+pub mod Stepping
+pub mod Slots
+pub mod Deciding
 mod Worked

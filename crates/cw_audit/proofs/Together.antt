@@ -21,11 +21,11 @@ use Rattle.cw_audit.proofs.TwoBlocks.{either, committed_not_pending}
 
 -- ## Lists
 
-or_false : (a b : Bool) → a ≡ false → b ≡ false → (a || b) ≡ false
+pub or_false : (a b : Bool) → a ≡ false → b ≡ false → (a || b) ≡ false
 or_false false b e f = f
 or_false true b e f = absurd (cc e)
 
-or_parts : (a b : Bool) → (a || b) ≡ false → (a ≡ false) × (b ≡ false)
+pub or_parts : (a b : Bool) → (a || b) ≡ false → (a ≡ false) × (b ≡ false)
 or_parts false b e = (refl, e)
 or_parts true b e = absurd (cc e)
 

@@ -10,5 +10,10 @@ pub mod LiveAccesses
 pub mod Ended
 pub mod Later
 pub mod Victims
+pub mod Settled
+pub mod Visits
+pub mod Visiting
+pub mod Walkers
 pub mod Together
+pub mod Backs
 pub mod Worked

@@ -22,7 +22,7 @@ pub(crate) fn may_fault(tree: &Tree, lives: &[bool], end: &RecordEnd) -> bool
 }
 
 /// Returns whether a number is that of a live strand.
-fn is_live_strand(tree: &Tree, lives: &[bool], n: u32) -> bool
+pub(crate) fn is_live_strand(tree: &Tree, lives: &[bool], n: u32) -> bool
     requires { lives.now ≡ map (is_live tree.now) (all_nodes tree.now) }
     ensures { result ≡ (is_strand tree.now n && is_live tree.now n) }
 {

@@ -3,27 +3,35 @@
 //! Use the laws to conclude from its parts that a sheet tells a coherent run, or from a coherent record that its sheet is sound.
 //! Contracts cite `specs/Audits.antt` (what an audit answers), over `specs/Parts.antt` (the parts) and `specs/Journals.antt` (the
 //! journals that a tree tells), and `specs/Laws.antt` (what the parts say together). `specs/TwoBlocks.antt` and `Together` are short
-//! ways to parts 3 and 7. `specs/Worked.antt` tries it all on examples. `Stamps`, `Latest`, `LiveAccesses`, `Spans`, `Ended`, `Later`
-//! and `Victims` have what is computed on the way to deciding parts.
+//! ways to parts 3 and 7. `specs/Settled.antt` tells from the tree alone whether strands can have done what it tells.
+//! `specs/Worked.antt` tries it all on examples. `Stamps`, `Latest`, `LiveAccesses`, `Spans`, `Ended`, `Later`, `Victims`, `Backs`,
+//! `Visits`, `Visiting` and `Walkers` have what is computed on the way to deciding parts.
 #![tactic(auto)]
 
+ghost use Rattle.cw_job.specs.Jobs.{Job};
+ghost use Rattle.cw_job.specs.Room.Strands.{strands_of_job};
 ghost use Rattle.cw_audit.specs.Laws.{AuditsAreOne, CoherentAreSound, OnlyOutputsBreakOrder, OrderIsOutputs, PartsAreCoherence, RecordsByParts, SoundIsCoherence, SoundOverSource};
+ghost use Rattle.cw_audit.specs.Settled.{StatesAreSettled};
 ghost use Rattle.cw_audit.specs.Together.{AccessesAreTogether, WrittenByPairs};
 ghost use Rattle.cw_audit.specs.TwoBlocks.{EndedByTwo};
 ghost use Rattle.cw_audit.specs.Worked.{BrokenSheets, SoundSheets};
 
 mod accesses;
 mod blocks;
+mod by_cell;
+mod cancels;
 mod ending;
 mod findings;
 mod kinds;
 mod latest;
 mod limits;
+mod outputs;
 mod program;
 mod refused;
 mod series;
 mod spans;
 mod stamps;
+mod strands;
 mod victims;
 mod words;
 
@@ -65,6 +73,12 @@ pub fn two_blocks_tell()
 pub fn accesses_are_together()
     ensures together { AccessesAreTogether }
     ensures written { WrittenByPairs }
+{}
+
+/// Law: strands can have done what a tree tells exactly if the strand of main fits the tree, from the root down. So a walk down the
+/// tree decides it: where a strand is behind each node is settled wherever something may follow.
+pub fn states_are_settled()
+    ensures { (job : Job) → StatesAreSettled (strands_of_job job) }
 {}
 
 /// Law: no sheet has two answers.

@@ -2,6 +2,7 @@
 use Rattle.std.proofs.Common.{◌≡◌, ℕ, ◌+◌, ◌-◌, ◌*◌, ◌<◌, ◌≤◌, ◌∙◌, List, [], ◌∷◌, length, length-append, arith, ap, sym, refl, subst, true}
 use Rattle.std.specs.Prelude.{ℤ, Bool, All, IsTrue, is_some}
 use Rattle.std.proofs.lemmas.List.Elements.{All-nil, All-head, All-tail}
+use Rattle.cw_code.specs.declared.Back.{Back}
 use Rattle.cw_tree.specs.declared.access.Entry.{Entry}
 use Rattle.cw_tree.specs.declared.conflict.Conflict.{Conflict}
 use Rattle.cw_log.specs.declared.token.Open.{Open}
@@ -73,6 +74,10 @@ module _ (b : Board) (t t' : StrandToken) (h : IsOf b t) (table : IsTokenOf b.sh
     pub out_is : (v : ℤ) → view_of t' ≡ drew_view (draw.Out v) t.track.behind t.track.second n (view_of t) → token_of t' ≡ made (token_of t) (kind.Out v) n → IsOf b t'
     out_is v view token = is_now b t' (drew_view (draw.Out v) t.track.behind t.track.second n (view_of t)) (made (token_of t) (kind.Out v) n) table view token (slots ∙ h.slots) has_room h.here h.turns h.gap h.gaps h.lists
         (sound_made (token_of t) (view_of t).room (view_of t).seen h.sound ((view_of t).room - 1 + share * 0) n (omega arith) less (kind.Out v))
+
+    pub cancelled_is : (back : List Back) → view_of t' ≡ drew_view (draw.Cancel back) t.track.behind t.track.second n (view_of t) → token_of t' ≡ made (token_of t) (kind.Cancel back) n → IsOf b t'
+    cancelled_is back view token = is_now b t' (drew_view (draw.Cancel back) t.track.behind t.track.second n (view_of t)) (made (token_of t) (kind.Cancel back) n) table view token (slots ∙ h.slots) has_room h.here h.turns h.gap h.gaps h.lists
+        (sound_made (token_of t) (view_of t).room (view_of t).seen h.sound ((view_of t).room - 1 + share * 0) n (omega arith) less (kind.Cancel back))
 
     pub began_is : view_of t' ≡ drew_view draw.Begin t.track.behind t.track.second n (view_of t) → token_of t' ≡ began (token_of t) n → IsOf b t'
     began_is view token = is_now b t' (drew_view draw.Begin t.track.behind t.track.second n (view_of t)) (began (token_of t) n) table view token (slots ∙ h.slots) has_room h.here h.turns h.gap h.gaps h.lists

@@ -1,48 +1,23 @@
--- Serves `cut`: what lies before the first entry that is an access beneath a place, by stamps.
+-- Serves `cut` and `value_before`: what lies before the first entry that is an access beneath a place, by stamps.
 use Rattle.std.proofs.Common.{◌≡◌, ℕ, zero, suc, ◌<◌, ◌≤◌, List, [], ◌∷◌, length, take, drop, get_or, refl, ap, sym, ◌∙◌, subst, arith, Bool, true, false, cond, inl, inr, nat_lt, pos, Some, None}
 use Rattle.std.specs.Prelude.{not, filter, All, IfSome, Contains, ◌==◌, ◌||◌}
 use Rattle.std.specs.List.{prefix_len, take_while}
 use Rattle.std.specs.List.Sorted.{IsStrictlyIncreasing}
-use Rattle.std.proofs.lemmas.Bool.{cases_lt, eqb-true, eq-eqb}
+use Rattle.std.proofs.lemmas.Bool.{cases_lt, eqb-true}
 use Rattle.std.proofs.lemmas.List.{length-map, get_or_default, take_all}
 use Rattle.std.proofs.lemmas.List.Elements.{All-contains, All-contains_itself, All-filter, All-nil}
 use Rattle.std.proofs.lemmas.List.Sums.{prefix_len_passes, prefix_len_stops}
-use Rattle.std.proofs.lemmas.Map.Views.{Contains-from_any}
 use Rattle.cw_tree.specs.declared.access.Entry.{Entry}
 use Rattle.cw_tree.specs.AccessStacks.{stamps}
 use Rattle.cw_tree.specs.Walks.{has}
 use Rattle.cw_steps.specs.Beneath.{least_with}
-use Rattle.cw_steps.proofs.Walked.{all_pass, least_kept, least_low, least_none}
+use Rattle.cw_steps.proofs.Walked.{all_pass, contains_had, had_at, is_had, kept_had, least_kept, least_low, least_none}
 use Rattle.cw_stack.proofs.Rising.{earlier_less, stamp_at}
 use Rattle.cw_stack.proofs.Rolling.{smaller_front}
 
 not_false : (b : Bool) → not b ≡ false → b ≡ true
 not_false true e = refl
 not_false false e = absurd (cc e)
-
-pub contains_had : (ns : List ℕ) (n : ℕ) → has ns n ≡ true → Contains ns n
-contains_had ns n e = Contains-from_any {eq = λ x y. y == x} (λ x y h. sym (eqb-true y x h)) n ns e
-
-had_at : (ns : List ℕ) (k n d : ℕ) → k < length ns → get_or ns k d ≡ n → has ns n ≡ true
-had_at [] k n d h e = absurd (omega arith)
-had_at (x ∷ ns) zero n d h e = ap (λ b. b || has ns n) (eq-eqb x n e)
-had_at (x ∷ ns) (suc k) n d h e = by (x == n) (had_at ns k n d (omega arith) e) where
-  by : (b : Bool) → has ns n ≡ true → (b || has ns n) ≡ true
-  by true q = refl
-  by false q = q
-
-is_had : (ns : List ℕ) (n : ℕ) → Contains ns n → has ns n ≡ true
-is_had ns n c = had_at ns c.0 n n c.1 c.2
-
--- a number of a list that passes a test is among those that do
-kept_had : (p : ℕ → Bool) (n : ℕ) → p n ≡ true → (ns : List ℕ) → has ns n ≡ true → has (filter p ns) n ≡ true
-kept_had p n q [] h = h
-kept_had p n q (x ∷ ns) h = by (x == n) refl (p x) refl (kept_had p n q ns) h where
-  by : (a : Bool) → (x == n) ≡ a → (b : Bool) → p x ≡ b → (has ns n ≡ true → has (filter p ns) n ≡ true) → (a || has ns n) ≡ true → has (cond b (x ∷ filter p ns) (filter p ns)) n ≡ true
-  by true e true f more g = ap (λ c. c || has (filter p ns) n) e
-  by true e false f more g = absurd (cc (sym f ∙ ap p (eqb-true x n e) ∙ q))
-  by false e true f more g = ap (λ c. c || has (filter p ns) n) e ∙ more g
-  by false e false f more g = more g
 
 all_at : (P : ℕ → Type 0) (p : ℕ → Bool) (ns : List ℕ) (n : ℕ) → All P (filter p ns) → has ns n ≡ true → p n ≡ true → P n
 all_at P p ns n all h q = All-contains P (filter p ns) n all (contains_had (filter p ns) n (kept_had p n q ns h))
@@ -95,22 +70,15 @@ module _ (es : List Entry) (rise : IsStrictlyIncreasing (stamps es)) (ts : List 
 
 -- ## What was found least
 
-module _ (es : List Entry) (cleaned : ℕ) (ts : List ℕ) (m : ℕ) (found : Some m ≡ least_with None (filter (has (stamps (drop cleaned es))) ts)) where
-  abbrev p : ℕ → Bool
-  p = has (stamps (drop cleaned es))
-
-  pub found_there : Contains (stamps (drop cleaned es)) m
-  found_there = contains_had (stamps (drop cleaned es)) m (subst (λ r. IfSome r (λ n. p n ≡ true)) (sym found) (least_kept (λ n. p n ≡ true) (filter p ts) None (all_pass p ts) tt))
+module _ (es : List Entry) (ts : List ℕ) (m : ℕ) (found : Some m ≡ least_with None (filter (has (stamps es)) ts)) where
+  pub found_there : Contains (stamps es) m
+  found_there = contains_had (stamps es) m (subst (λ r. IfSome r (λ n. has (stamps es) n ≡ true)) (sym found) (least_kept (λ n. has (stamps es) n ≡ true) (filter (has (stamps es)) ts) None (all_pass (has (stamps es)) ts) tt))
 
   found_touched : has ts m ≡ true
-  found_touched = is_had ts m (subst (λ r. IfSome r (Contains ts)) (sym found) (least_kept (Contains ts) (filter p ts) None (All-filter p (Contains ts) ts (All-contains_itself ts)) tt))
+  found_touched = is_had ts m (subst (λ r. IfSome r (Contains ts)) (sym found) (least_kept (Contains ts) (filter (has (stamps es)) ts) None (All-filter (has (stamps es)) (Contains ts) ts (All-contains_itself ts)) tt))
 
-  pub found_cut : IsStrictlyIncreasing (stamps es) → cleaned ≡ 0 → filter (λ e. nat_lt e.mark.stamp m) es ≡ take_while (is_other ts) es
-  found_cut rise none =
-      let all : drop cleaned es ≡ es = ap (λ k. drop k es) none in
-      cut_before es rise ts m (subst (λ xs. Contains (stamps xs) m) all found_there) found_touched
-      (subst (λ xs. All (λ n. m ≤ n) (filter (has (stamps xs)) ts)) all (least_low (filter p ts) None m (sym found)).0)
+  pub found_cut : IsStrictlyIncreasing (stamps es) → filter (λ e. nat_lt e.mark.stamp m) es ≡ take_while (is_other ts) es
+  found_cut rise = cut_before es rise ts m found_there found_touched (least_low (filter (has (stamps es)) ts) None m (sym found)).0
 
-pub nothing_cut : (es : List Entry) (cleaned : ℕ) (ts : List ℕ) → None ≡ least_with None (filter (has (stamps (drop cleaned es))) ts) → IsStrictlyIncreasing (stamps es) → cleaned ≡ 0 → es ≡ take_while (is_other ts) es
-nothing_cut es cleaned ts found rise none =
-    none_cut es rise ts (subst (λ xs. filter (has (stamps xs)) ts ≡ []) (ap (λ k. drop k es) none) (least_none (filter (has (stamps (drop cleaned es))) ts) (sym found)))
+pub nothing_cut : (es : List Entry) (ts : List ℕ) → None ≡ least_with None (filter (has (stamps es)) ts) → IsStrictlyIncreasing (stamps es) → es ≡ take_while (is_other ts) es
+nothing_cut es ts found rise = none_cut es rise ts (least_none (filter (has (stamps es)) ts) (sym found))

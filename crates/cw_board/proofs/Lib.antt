@@ -8,3 +8,4 @@ pub mod Reading
 pub mod Refusing
 pub mod Rolls
 pub mod Cuts
+pub mod PutBack

@@ -3,3 +3,4 @@ pub mod Boards
 pub mod Turns
 pub mod Asked
 pub mod Victims
+pub mod Cancelled

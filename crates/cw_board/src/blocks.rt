@@ -12,7 +12,7 @@ use cw_base::OutOfMemory;
 use cw_steps::{Draw, StrandToken};
 
 impl Board {
-    /// Begins a block in the token's place.
+    /// Begins a block in the token's place. Without memory it makes no step: no number is drawn, and the word of the gap stays.
     pub fn begin(&self, token: &mut StrandToken) -> Result<(), OutOfMemory>
         requires of { IsOf self.now token.old }
         requires goes { GoesFree (budget_of self.now) (token_of token.old) }
@@ -20,6 +20,7 @@ impl Board {
         ensures ok { OnOk result ((stamp : ℕ) × IsLater (token_of token.old) stamp × (token_of token.new ≡ began (token_of token.old) stamp)) }
         ensures err { OnErr result (token_of token.new ≡ token_of token.old) }
         ensures word { OnOk result (IsShown (track_of token.old.track) (track_of token.new.track)) }
+        ensures unmoved { OnErr result ((token.new.seat ≡ token.old.seat) × (track_of token.new.track ≡ track_of token.old.track)) }
     {
         token.reserve(1)?;
         self.start(token);

@@ -63,6 +63,7 @@ impl Board {
         requires comes { CellComesHome cell home.Plain (newest_aim (view_of token.old).turns) (newest_cell (view_of token.old).turns) (slot.Cell held) }
         ensures of { IsOf self.now token.new }
         ensures view { view_of token.new ≡ gave_view home.Plain (view_of token.old) }
+        ensures track { token.new.track ≡ token.old.track }
         ensures token { token_of token.new ≡ token_of token.old }
         ensures word { (track_of token.new.track).word ≡ (track_of token.old.track).word }
     {

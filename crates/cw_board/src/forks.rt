@@ -10,7 +10,7 @@ ghost use Rattle.cw_steps.specs.declared.view.Slot.{Slot};
 ghost use Rattle.cw_steps.specs.declared.view.Slot.TheVariants as slot;
 ghost use Rattle.cw_steps.specs.Homes.{ComesHome, IsForkThere, IsMergedNow, IsSplitNow, IsTooEarly};
 ghost use Rattle.cw_steps.specs.Stands.{brought_token, token_of};
-ghost use Rattle.cw_steps.specs.Tracks.{CanPart, IsReady};
+ghost use Rattle.cw_steps.specs.Tracks.{track_of, CanPart, IsReady};
 ghost use Rattle.cw_steps.specs.Views.{columns_for, key_of, newest_aim, newest_tier, newest_used, tier_with, view_of, CanFork, IsTierOf};
 ghost use Rattle.cw_board.specs.Boards.{budget_of, cells_in, columns_of, IsOf};
 ghost use Rattle.cw_board.specs.Turns.{AreOf, BringsNothing, HasForked, HasTier, IsHolding, IsOfTier};
@@ -127,7 +127,8 @@ impl Board {
         self.leave_tier(token, tier, Home::Merge { fork, used });
     }
 
-    /// Makes a fork where the token stands: with two tokens if there are columns for both strands, otherwise inline.
+    /// Makes a fork where the token stands: with two tokens if there are columns for both strands, otherwise inline. Without memory it
+    /// makes no step: no column is used, no number is drawn, and the word of the gap stays.
     pub fn fork<R: Wait>(
         &self,
         rt: &R,
@@ -138,6 +139,7 @@ impl Board {
         ensures of { IfOk result (AreOf self.now) }
         ensures ok { IfOk result (λ f. Forks token_of (token_of token) f) }
         ensures err { IfErr result (λ e. IsOf self.now e.0 × (token_of e.0 ≡ token_of token)) }
+        ensures unmoved { IfErr result (λ e. (e.0.seat ≡ token.seat) × (track_of e.0.track ≡ track_of token.track)) }
     {
         let mut token = token;
         match token.reserve(3) {

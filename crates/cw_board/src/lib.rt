@@ -10,6 +10,7 @@ mod access;
 mod asking;
 mod blocks;
 mod board;
+mod cancelling;
 mod cells;
 mod closing;
 mod forks;

@@ -6,7 +6,8 @@ ghost use Rattle.cw_steps.specs.Stands.{token_of};
 ghost use Rattle.cw_board.specs.Boards.{budget_of, cells_in, columns_of, table_of, AreOfCells, IsOf};
 
 use crate::Board;
-use cw_base::OutOfMemory;
+use cw_base::{OutOfMemory, Seq};
+use cw_code::Back;
 use cw_log::{Access, Forked, SharedBoard};
 use cw_steps::StrandToken;
 use cw_trace::Early;
@@ -153,6 +154,11 @@ impl<N: BoardName> SharedBoard for NamedBoard<N> {
     ) -> Result<Access, OutOfMemory> {
         let NamedToken { token, .. } = token;
         self.board.access(rt, token, cell, write)
+    }
+
+    fn cancel<R: Wait>(&self, rt: &R, token: &mut NamedToken<N>) -> Result<Seq<Back>, OutOfMemory> {
+        let NamedToken { token, .. } = token;
+        self.board.cancel(rt, token)
     }
 
     fn fork<R: Wait>(

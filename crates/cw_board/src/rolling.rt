@@ -49,10 +49,8 @@ fn cut(cell: &mut Cell, number: u32, token: &StrandToken)
     ensures low { (most : ℕ) → IsLowCell most (slot.Cell cell.old) → IsLowCell most (slot.Cell cell.new) }
     ensures left { LeavesCell aims.Undo cell.old cell.new }
 {
-    // A hint to the prover, without effect: stamps rise.
-    let _ = cell.journal();
-    if let Some(first) = token.first_entry(number, cell) {
-        cell.roll(first);
+    if let Some(first) = token.first_entry(number, cell.journal()) {
+        cut_from(cell, first);
     }
 }
 

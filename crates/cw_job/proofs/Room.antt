@@ -3,3 +3,4 @@ pub mod Lawful
 pub mod Nexts
 pub mod Wants
 pub mod Backs
+pub mod Runs

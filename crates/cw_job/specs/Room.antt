@@ -1,2 +1,3 @@
 pub mod Strands
 pub mod Saves
+pub mod Runners

@@ -6,11 +6,13 @@
 #![tactic(auto)]
 
 mod memory;
+mod runner;
 mod standing;
 mod task;
 mod words;
 
 pub use memory::{first_memory, value_at};
+pub use runner::Runner;
 pub use standing::Standing;
 pub use task::Task;
 pub use words::takes_words;

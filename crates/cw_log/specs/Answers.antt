@@ -1,7 +1,9 @@
 -- What the answers of a board's calls tell.
-use Rattle.std.specs.Prelude.{◌≡◌, ◌⊎◌, ℕ, ℤ, ◌<◌, Contains, Option, Some, None, length}
+use Rattle.std.specs.Prelude.{◌≡◌, ◌⊎◌, ℕ, ℤ, ◌<◌, All, Contains, List, Option, Some, None, length, map}
+use Rattle.std.specs.List.Sorted.{IsStrictlyIncreasing}
+use Rattle.cw_code.specs.declared.Back.{Back}
 use Rattle.cw_tree.specs.declared.node.Kind.{Kind}
-use Rattle.cw_tree.specs.declared.node.Kind.TheVariants.{Read, Write}
+use Rattle.cw_tree.specs.declared.node.Kind.TheVariants.{Read, Write, Cancel}
 use Rattle.cw_log.specs.declared.board.Access.{Access}
 use Rattle.cw_log.specs.declared.board.Access.TheVariants.{Value, Conflict}
 use Rattle.cw_log.specs.declared.board.Forked.{Forked}
@@ -27,6 +29,14 @@ IsAround x b = (b ≡ 0) ⊎ Contains x.around b
 abbrev pub Meets : (before after : Token) → (cell : ℕ) → Option ℤ → Access → Type 0
 Meets x y c w (Value v) = IsWritten w v × ((stamp : ℕ) × (y ≡ made x (kind_of_answer c w v) stamp))
 Meets x y c w (Conflict k) = (k.cell ≡ c) × (k.asker ≡ length x.own.nodes) × IsAround x k.victim × (y ≡ refused x k)
+
+-- The log has one more node, a cancel with the list `back`. That list names cells by rising number, and no cell but those below
+-- `cells`.
+pub record Cancels (cells : ℕ) (before after : Token) (back : List Back) : Type 0 where
+  pub rises : IsStrictlyIncreasing (map (λ (b : Back). b.cell) back)
+  pub there : All (λ (b : Back). b.cell < cells) back
+  pub stamp : ℕ
+  pub token : after ≡ made before (Cancel back) stamp
 
 -- Either two tokens, and the left one goes on with the log, or one token in the left strand.
 abbrev pub Forks : {T : Type 0} → (T → Token) → Token → Forked T → Type 0

@@ -58,14 +58,14 @@ abbrev pub refused : Token → Conflict → Token
 refused x c = let y = made x (Tried c.cell) 0 in record y { own = record y.own { conflicts = y.own.conflicts ++ c ∷ [] } }
 
 -- it goes on in the strand with the number `strand`, on side `side` of a fork made where it stood
-abbrev pub inside : Token → Side → (strand : ℕ) → Token
-inside x side strand = record x { strand = strand; place = strand; forks = record { side = side; strand = x.strand; place = x.place; around = x.around } ∷ x.forks }
+abbrev pub gone_in : Token → Side → (strand : ℕ) → Token
+gone_in x side strand = record x { strand = strand; place = strand; forks = record { side = side; strand = x.strand; place = x.place; around = x.around } ∷ x.forks }
 
 -- one more fork with its left strand, in which it goes on
 abbrev pub forked : Token → (stamp fork : ℕ) → Token
 forked x stamp fork =
     let n = length x.own.nodes in
-    inside (with_nodes x (x.own.nodes ++ fresh_node x.place Fork stamp ∷ fresh_node n Strand 0 ∷ [])) (Beside fork) (n + 1)
+    gone_in (with_nodes x (x.own.nodes ++ fresh_node x.place Fork stamp ∷ fresh_node n Strand 0 ∷ [])) (Beside fork) (n + 1)
 
 -- the token of the right strand, whose log hangs from the fork
 abbrev pub right_of : Token → (fork column : ℕ) → Token
@@ -87,7 +87,7 @@ right_of x fork column = record {
 abbrev pub branched : Token → (stamp : ℕ) → Token
 branched x stamp =
     let n = length x.own.nodes in
-    inside (with_nodes x (x.own.nodes ++ fresh_node x.place Fork stamp ∷ fresh_node n Strand 0 ∷ fresh_node n Strand 0 ∷ [])) (First (n + 2)) (n + 1)
+    gone_in (with_nodes x (x.own.nodes ++ fresh_node x.place Fork stamp ∷ fresh_node n Strand 0 ∷ fresh_node n Strand 0 ∷ [])) (First (n + 2)) (n + 1)
 
 -- from a strand of the innermost fork back to where the strand that forked stands
 abbrev pub left_behind : Token → List Open → Token

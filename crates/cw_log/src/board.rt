@@ -1,5 +1,6 @@
 //! What a board does for the token of one strand.
-use cw_base::OutOfMemory;
+use cw_base::{OutOfMemory, Seq};
+use cw_code::Back;
 use cw_trace::Early;
 use cw_tree::{Conflict, Halt, Node};
 use std::sync::Wait;
@@ -28,7 +29,7 @@ pub trait SharedBoard: Sync {
     ghost use Rattle.cw_tree.specs.declared.node.Kind.TheVariants.{Out};
     ghost use Rattle.cw_log.specs.declared.token.Token.{Token};
     ghost use Rattle.cw_log.specs.Tokens.{AreOfOneFork, GoesFree, GoesBack, HasBlock, IsDone, IsInline, IsLater, IsOn, MayHalt, MayMerge, MaySplit, MayTakeBack, began, ended, halted, made, merged, once_split, taken_back, taken_in, turned, was_told};
-    ghost use Rattle.cw_log.specs.Answers.{Forks, Meets};
+    ghost use Rattle.cw_log.specs.Answers.{Cancels, Forks, Meets};
 
     /// What a token stands for.
     ghost of: { Self.Token → Token };
@@ -67,6 +68,14 @@ pub trait SharedBoard: Sync {
         requires goes { GoesFree (budget self.now) (of token.old) }
         requires cell { cell < cells self.now }
         ensures ok { IfOk result (λ a. Meets (of token.old) (of token.new) cell write a) }
+        ensures err { OnErr result (of token.new ≡ of token.old) };
+
+    /// Gives up the block in the token's place: finds which cells were written beneath it, and each one's value from before the block
+    /// came to it. Returns that list, which is also added to the log. If memory runs out, the block is as before.
+    fn cancel<R: Wait>(&self, rt: &R, token: &mut Self::Token) -> Result<Seq<Back>, OutOfMemory>
+        requires goes { GoesFree (budget self.now) (of token.old) }
+        requires block { HasBlock (of token.old) }
+        ensures ok { IfOk result (λ back. Cancels (cells self.now) (of token.old) (of token.new) back) }
         ensures err { OnErr result (of token.new ≡ of token.old) };
 
     fn fork<R: Wait>(

@@ -6,6 +6,7 @@ pub mod Stopping
 pub mod Acting
 pub mod Refusing
 pub mod Blocks
+pub mod Cancelling
 pub mod Forking
 pub mod Finishing
 pub mod Behind

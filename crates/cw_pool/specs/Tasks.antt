@@ -3,7 +3,6 @@ use Rattle.std.specs.Prelude.{◌≡◌, ℕ, ◌+◌, ◌<◌, ◌≤◌, Bool,
 use Rattle.cw_code.specs.declared.FaultKind.{FaultKind}
 use Rattle.cw_strand.specs.declared.want.Want.TheVariants as want
 use Rattle.cw_strand.specs.Strands.{Strands, Reached, is_over}
-use Rattle.cw_code.specs.Programs.{cancels}
 use Rattle.cw_strand.specs.Programs.{IsCompiled}
 use Rattle.cw_job.specs.Jobs.{Job, TakesWords}
 use Rattle.cw_job.specs.Room.Strands.{StrandState, strands_of_job}
@@ -31,10 +30,9 @@ use Rattle.cw_pool.specs.declared.task.Below.TheVariants as below
 use Rattle.cw_pool.specs.declared.task.Base.{Base}
 use Rattle.cw_pool.specs.declared.task.Base.TheVariants as base
 
--- What may be run: a compiled program whose code has no cancel, with one word for each parameter of main.
+-- What may be run: a compiled program, with one word for each parameter of main.
 pub record IsRun (job : Job) : Type 0 where
   pub compiled : IsCompiled job.program
-  pub cancels : cancels job.program.code ≡ false
   pub takes : TakesWords job.program (length job.words)
 
 -- ## Logs

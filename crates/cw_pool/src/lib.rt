@@ -11,6 +11,7 @@
 mod access;
 mod blocks;
 mod boxes;
+mod cancels;
 mod crew;
 mod ends;
 mod forks;

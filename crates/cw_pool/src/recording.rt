@@ -2,7 +2,6 @@
 ghost use Rattle.std.specs.Prelude.{◌≡◌, ◌≢◌, ◌<◌, IfOk, IsTrue, None, false, length};
 ghost use Rattle.cw_tree.specs.Nodes.{is_strand};
 ghost use Rattle.cw_strand.specs.Names.{first_memory};
-ghost use Rattle.cw_code.specs.Programs.{cancels};
 ghost use Rattle.cw_strand.specs.Programs.{IsCompiled};
 ghost use Rattle.cw_job.specs.Jobs.{TakesWords};
 ghost use Rattle.cw_log.specs.declared.token.Token.{Token};
@@ -86,7 +85,6 @@ fn run_named<N: BoardName, G: Gate, R: Threads + Wait + Sync>(
     gate: &G,
 ) -> Result<Record, OutOfMemory>
     requires compiled { IsCompiled program }
-    requires cancels { cancels program.code ≡ false }
     requires words { TakesWords program (length words) }
     requires of { IsOf board root }
     requires root { token_of root ≡ root_token }
@@ -120,8 +118,8 @@ fn run_named<N: BoardName, G: Gate, R: Threads + Wait + Sync>(
 }
 
 /// Runs a program with `workers` workers, the first one on the caller's thread, and each other one on a thread of its own if that
-/// could be started. One worker runs depth first, with neither board nor deque. The program gives up no block, since its code has
-/// no cancel. The record has the program, words and limits that are passed in.
+/// could be started. One worker runs depth first, with neither board nor deque. The record has the program, words and limits that are
+/// passed in.
 ///
 /// With more than one worker the record's tree is put together from what strands did on a board whose rule is still small. Whether
 /// it replays has to be checked. The only error is out of memory. A run in which a strand ran out of memory has no record.
@@ -135,7 +133,6 @@ pub fn run<G: Gate, R: Threads + Wait + Sync>(
     gate: &G,
 ) -> Result<Record, OutOfMemory>
     requires compiled { IsCompiled program }
-    requires cancels { cancels program.code ≡ false }
     requires words { TakesWords program (length words) }
     requires strands { 0 < limits.strands }
     ensures program { IfOk result (λ r. r.program ≡ program) }

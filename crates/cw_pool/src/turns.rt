@@ -3,6 +3,7 @@ ghost use Rattle.std.specs.Prelude.{◌≡◌};
 
 use crate::access::access_cell;
 use crate::blocks::{begin_block, end_block, roll_block};
+use crate::cancels::cancel_block;
 use crate::moves::{put_out, stop_at_fault};
 use crate::{Mode, RunName, Running, Scene};
 use cw_io::{Gate, Point};
@@ -67,7 +68,7 @@ pub(crate) fn step<B: SharedBoard, J: RunName, G: Gate, R: Threads + Wait + Sync
         }
         Want::Out(_) => put_out(scene, now),
         Want::Fault(_) => stop_at_fault(scene, now),
-        Want::Cancel => unreachable!(),
+        Want::Cancel => cancel_block(rt, scene, now),
         Want::Fork | Want::Sync | Want::Done => {}
     }
 }

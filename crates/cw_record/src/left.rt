@@ -3,14 +3,15 @@ ghost use Rattle.cw_strand.specs.Names.{first_memory};
 ghost use Rattle.cw_record.specs.Built.{HasRecord, memory_left, value_left, with_left};
 ghost use Rattle.cw_record.specs.ClosedRun.{end_after};
 ghost use Rattle.cw_record.specs.Coherent.{outputs_shown};
+ghost use Rattle.cw_record.specs.Items.{items};
 ghost use Rattle.cw_record.specs.Order.{node_of};
 
 use crate::RecordEnd;
-use crate::items::OrderItem;
+use crate::items::{OrderItem, items};
 use cw_base::{OutOfMemory, Seq};
 use cw_code::Program;
 use cw_job::first_memory;
-use cw_tree::{Closed, Entry, Halt, Kind, Tree};
+use cw_tree::{Closed, Conflict, Entry, Halt, Kind, Tree};
 use std::alloc::Global;
 
 /// Returns how a closed run ended: as it was stopped; otherwise its moves were spent; otherwise it finished. What it left is filled
@@ -92,6 +93,20 @@ fn value_left(first: i64, journal: &[Entry]) -> i64
         Some(entry) => entry.value,
         None => first,
     }
+}
+
+/// Returns the outputs that a run whose budget is `aborts` attempts made, in its order.
+pub fn outputs_of(
+    alloc: Global,
+    tree: &Tree,
+    conflicts: &[Conflict],
+    aborts: u32,
+    end: &RecordEnd,
+) -> Result<Seq<i64>, OutOfMemory>
+    ensures { IfOk result (λ vs. vs ≡ outputs_shown tree.now (items tree.now conflicts.now aborts end.now)) }
+{
+    let items = items(alloc, tree, conflicts, aborts, end)?;
+    outputs_left(alloc, tree, items.as_slice())
 }
 
 /// Returns the outputs among the items of a run, in their order.

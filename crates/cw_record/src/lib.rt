@@ -31,6 +31,7 @@ mod worker;
 
 pub use checking::{Checked, check};
 pub use items::OrderItem;
+pub use left::outputs_of;
 pub use order::order_of;
 pub use record::{Record, build, depth_first};
 pub use record_end::RecordEnd;

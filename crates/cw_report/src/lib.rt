@@ -10,6 +10,7 @@ mod found;
 mod names;
 mod report;
 mod results;
+mod strands;
 
 ghost use Rattle.cw_report.specs.Worked.{Cancelled, Counts, Lines};
 

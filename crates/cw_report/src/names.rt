@@ -4,7 +4,7 @@ ghost use Rattle.cw_report.specs.Report.{cell_text, maker_text, node_there};
 ghost use Rattle.cw_report.specs.RunNames.{HasElements, HasStrands};
 
 use crate::elements::{Element, elements, push_element};
-use crate::found::Found;
+use crate::strands::Strands;
 use cw_base::OutOfMemory;
 use cw_code::CellInfo;
 use cw_tree::Tree;
@@ -14,7 +14,7 @@ use std::alloc::Global;
 #[derive(Drop)]
 pub struct RunNames<'a> {
     elements: Vec<Element<'a>>,
-    found: Found,
+    strands: Strands,
 }
 
 impl<'a> RunNames<'a> {
@@ -28,8 +28,8 @@ impl<'a> RunNames<'a> {
         ensures strands { IfOk result (λ names. HasStrands names tree.now) }
     {
         let elements = elements(alloc, cells)?;
-        let found = Found::of_tree(alloc, tree)?;
-        Ok(RunNames { elements, found })
+        let strands = Strands::of_tree(tree)?;
+        Ok(RunNames { elements, strands })
     }
 
     /// Writes the name of element `number`, or `?` if there is none.
@@ -44,6 +44,6 @@ impl<'a> RunNames<'a> {
         requires { HasStrands self.now tree.now }
         ensures { OnOk result (string_bytes text.new ≡ string_bytes text.old ++ maker_text tree.now (node_there tree.now node)) }
     {
-        self.found.push_strand(text, tree, node)
+        self.strands.push_strand(text, tree, node)
     }
 }

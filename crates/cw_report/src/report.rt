@@ -1,7 +1,5 @@
 ghost use Rattle.std.specs.Prelude.{◌≡◌, ◌++◌, List, IfOk, OnOk, map, string_bytes};
-ghost use Rattle.std.specs.BTreeMap.{get};
 ghost use Rattle.std.specs.List.{flat_map};
-ghost use Rattle.std.specs.Ordering.{nat_cmp};
 ghost use Rattle.cw_code.specs.declared.CellInfo.{CellInfo};
 ghost use Rattle.cw_report.specs.Elements.{element_text};
 ghost use Rattle.cw_report.specs.Found.{AreFound};
@@ -96,7 +94,7 @@ fn push_accesses(
     found: &Found,
     conflict: &Conflict,
 ) -> Result<(), OutOfMemory>
-    requires { AreFound tree.now found.now.forks.items found.now.sides.items found.now.strands.items (get nat_cmp found.now.first) }
+    requires { AreFound tree.now found.now }
     ensures { OnOk result ((cells : List CellInfo) → map element_text elements.now ≡ flat_map element_names cells →
         string_bytes text.new ≡ string_bytes text.old ++ accesses_text cells tree.now conflict.now) }
 {
@@ -104,7 +102,7 @@ fn push_accesses(
     text.push_str(" last ")?;
     found.push_maker(text, tree, conflict.last)?;
     write!(text, "@{} asker ", conflict.last)?;
-    found.push_strand(text, tree, conflict.asker)
+    found.strands.push_strand(text, tree, conflict.asker)
 }
 
 fn push_conflict(
@@ -114,7 +112,7 @@ fn push_conflict(
     found: &Found,
     conflict: &Conflict,
 ) -> Result<(), OutOfMemory>
-    requires { AreFound tree.now found.now.forks.items found.now.sides.items found.now.strands.items (get nat_cmp found.now.first) }
+    requires { AreFound tree.now found.now }
     ensures { OnOk result ((cells : List CellInfo) → map element_text elements.now ≡ flat_map element_names cells →
         string_bytes text.new ≡ string_bytes text.old ++ conflict_line cells tree.now conflict.now) }
 {

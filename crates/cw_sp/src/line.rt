@@ -1,8 +1,9 @@
-ghost use Rattle.std.specs.Prelude.{◌≡◌, ◌+◌, ◌<◌, ◌++◌, ◌∷◌, ◌↔◌, [], None, IsTrue, IfOk, Contains, length, nat_eq, slice_index};
-ghost use Rattle.std.specs.List.{IsDistinct, last_or};
+ghost use Rattle.std.specs.Prelude.{◌≡◌, ◌+◌, ◌<◌, ◌≤◌, ◌↔◌, IsTrue, IfOk, All, Contains, filter, length, nat_eq, slice_index};
+ghost use Rattle.std.specs.List.{IsDistinct};
+ghost use Rattle.std.specs.Option.{ForSome};
 ghost use Rattle.cw_order.specs.Order.{position};
 ghost use Rattle.cw_sp.specs.Orders.{is_leaf};
-ghost use Rattle.cw_sp.specs.Lines.{IsWalk, IsLine};
+ghost use Rattle.cw_sp.specs.Lines.{AreInserted, IsWalk, IsLine};
 
 use cw_base::OutOfMemory;
 use cw_order::{OrderList, Steps};
@@ -24,16 +25,10 @@ impl Line {
         ensures { IfOk result (IsLine tree.now order.now) }
     {
         let count = tree.nodes().len();
+        let leaves = leaves(alloc, tree, order)?;
         let mut elements = vec![in alloc; 0u32; count]?;
         let mut list = OrderList::with_room(alloc, count as u32)?;
-        let mut last = None;
-        for n in order {
-            if is_leaf(tree, *n) {
-                let element = append(&mut list, last);
-                elements[*n as usize] = element;
-                last = Some(element);
-            }
-        }
+        insert_leaves(&mut list, &mut elements, leaves.as_slice(), None);
         Ok(Line { list, elements })
     }
 
@@ -54,20 +49,44 @@ impl Line {
     }
 }
 
-/// Adds an element behind `last`, the last one of `list`, and returns it.
-fn append(list: &mut OrderList, last: Option<u32>) -> u32
-    requires room { length list.old.elements < list.old.room }
-    requires last { last ≡ last_or None list.old.elements }
+/// Returns the leaves that `order` visits.
+fn leaves(alloc: Global, tree: &Tree, order: &[u32]) -> Result<Vec<u32>, OutOfMemory>
+    requires { All (λ n. n < length tree.now) order.now }
+    ensures { IfOk result (λ leaves. leaves.items ≡ filter (is_leaf tree.now) order.now) }
+{
+    let mut leaves = Vec::with_capacity(alloc, order.len())?;
+    for n in order {
+        if is_leaf(tree, *n) {
+            leaves.push(*n)?;
+        }
+    }
+    Ok(leaves)
+}
+
+/// Inserts an element for each of `leaves` behind `last`, in their order, and keeps them by node. Each half of the leaves is inserted
+/// beside the one in the middle, so labels stay far apart, and the list need not give elements new labels.
+fn insert_leaves(list: &mut OrderList, elements: &mut Vec<u32>, leaves: &[u32], last: Option<u32>)
+    requires there { All (λ n. n < length elements.old.items) leaves.now }
+    requires once { IsDistinct nat_eq leaves.now }
+    requires last { ForSome last (Contains list.old.elements) }
     requires distinct { IsDistinct nat_eq list.old.elements }
-    ensures elements { list.new.elements ≡ list.old.elements ++ result ∷ [] }
-    ensures distinct { IsDistinct nat_eq list.new.elements }
+    requires room { length list.old.elements + length leaves.now ≤ list.old.room }
+    ensures filled { AreInserted leaves.now last list.old.elements elements.old.items list.new.elements elements.new.items }
     ensures room { list.new.room ≡ list.old.room }
 {
-    if let Ok(element) = list.insert_after(last) {
-        element
-    } else {
-        unreachable!()
+    if leaves.is_empty() {
+        return;
     }
+    let middle = leaves.len() / 2;
+    let node = leaves[middle] as usize;
+    let Ok(element) = list.insert_after(last) else {
+        unreachable!()
+    };
+    elements[node] = element;
+    let (left, _) = leaves.split_at(middle);
+    insert_leaves(list, elements, left, last);
+    let (_, right) = leaves.split_at(middle + 1);
+    insert_leaves(list, elements, right, Some(element));
 }
 
 /// Returns whether node `n` is no strand, fork or block.

@@ -4,3 +4,4 @@ pub mod Concerns
 pub mod Steps
 pub mod Leaving
 pub mod Walked
+pub mod WrittenBeneath

@@ -40,6 +40,7 @@ module _ (v : View) (h : Option Stop) where
   drawn_stands (draw.Fork left right gap) n c = fork_token (left == right) left right gap n c
   drawn_stands (draw.Access cell wrote x) n c = refl
   drawn_stands (draw.Out x) n c = refl
+  drawn_stands (draw.Cancel back) n c = refl
   drawn_stands draw.Begin n c = refl
   drawn_stands (draw.End aborted) n c = refl
 
@@ -137,6 +138,7 @@ module _ (v : View) (c : TrackParts) (h : Agrees c v) where
   }
   drawn_agrees (draw.Access cell wrote x) n s ends = record { column = h.column; gap = h.gap; word = h.word; outer = h.outer; coming = h.coming; arounds = h.arounds; within = h.within }
   drawn_agrees (draw.Out x) n s ends = record { column = h.column; gap = h.gap; word = h.word; outer = h.outer; coming = h.coming; arounds = h.arounds; within = h.within }
+  drawn_agrees (draw.Cancel back) n s ends = record { column = h.column; gap = h.gap; word = h.word; outer = h.outer; coming = h.coming; arounds = h.arounds; within = h.within }
   drawn_agrees draw.Begin n s ends = record {
     column = h.column;
     gap = h.gap;

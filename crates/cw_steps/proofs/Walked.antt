@@ -1,34 +1,33 @@
 -- Serves walks over what is beneath a token's place: what was found in the nodes so far, with what is found in the rest.
-use Rattle.std.proofs.Common.{◌≡◌, ℕ, ◌≤◌, inl, inr, arith, subst, List, [], ◌∷◌, ◌++◌, map, refl, ap, sym, ◌∙◌, Bool, true, false, cond, Option, Some, None, append_assoc}
+use Rattle.std.proofs.Common.{◌≡◌, ℕ, zero, suc, ◌<◌, ◌≤◌, ◌↔◌, length, get_or, inl, inr, arith, subst, List, [], ◌∷◌, ◌++◌, map, refl, ap, sym, ◌∙◌, Bool, true, false, cond, Option, Some, None, append_assoc}
 use Rattle.std.specs.Prelude.{All, IfSome, min, Contains, ◌==◌, ◌&&◌, ◌||◌, nat_lt, filter, if◌then◌else◌}
 use Rattle.std.specs.List.{flat_map}
 use Rattle.std.specs.Option.{option_to_list}
 use Rattle.std.proofs.lemmas.List.{map-append}
 use Rattle.std.proofs.lemmas.List.Elements.{filter-append, All-nil, All-cons, All-head, All-tail}
-use Rattle.std.proofs.lemmas.Bool.{eqb-true, cases_lt}
+use Rattle.std.proofs.lemmas.Bool.{eqb-true, eq-eqb, cases_lt}
 use Rattle.std.proofs.Math.Nat.{min-le_left, min-le_right}
 use Rattle.std.proofs.lemmas.Map.Views.{Contains-from_any}
 use Rattle.cw_tree.specs.declared.node.Node.{Node}
-use Rattle.cw_tree.specs.Nodes.{touches_kind}
 use Rattle.cw_tree.specs.Walks.{has}
 use Rattle.cw_log.specs.declared.log.Log.{Log}
-use Rattle.cw_steps.specs.Beneath.{cell_touched, cells_touched, least_with, lesser, logs_beneath, touches_in}
+use Rattle.cw_steps.specs.Beneath.{cell_reached, cells_reached, is_cell, least_with, lesser, logs_beneath, reaches_in}
 
 pub least_more : (r : Option ℕ) (ms ns : List ℕ) → least_with r (ms ++ ns) ≡ least_with (least_with r ms) ns
 least_more r [] ns = refl
 least_more r (m ∷ ms) ns = least_more (lesser r m) ms ns
 
-pub cells_more : (p : ℕ → Bool) (xs ys : List Node) → filter p (cells_touched (xs ++ ys)) ≡ filter p (cells_touched xs) ++ filter p (cells_touched ys)
-cells_more p xs ys = ap (filter p) (all xs) ∙ filter-append p (cells_touched xs) (cells_touched ys) where
-  all : (xs : List Node) → cells_touched (xs ++ ys) ≡ cells_touched xs ++ cells_touched ys
+pub cells_more : (w : Bool) (p : ℕ → Bool) (xs ys : List Node) → filter p (cells_reached w (xs ++ ys)) ≡ filter p (cells_reached w xs) ++ filter p (cells_reached w ys)
+cells_more w p xs ys = ap (filter p) (all xs) ∙ filter-append p (cells_reached w xs) (cells_reached w ys) where
+  all : (xs : List Node) → cells_reached w (xs ++ ys) ≡ cells_reached w xs ++ cells_reached w ys
   all [] = refl
-  all (x ∷ xs) = ap (λ cs. option_to_list (cell_touched x.kind) ++ cs) (all xs) ∙ sym (append_assoc (option_to_list (cell_touched x.kind)) (cells_touched xs) (cells_touched ys))
+  all (x ∷ xs) = ap (λ cs. option_to_list (cell_reached w x.kind) ++ cs) (all xs) ∙ sym (append_assoc (option_to_list (cell_reached w x.kind)) (cells_reached w xs) (cells_reached w ys))
 
-pub touches_more : (p : ℕ → Bool) (c : ℕ) (xs ys : List Node) → filter p (touches_in c (xs ++ ys)) ≡ filter p (touches_in c xs) ++ filter p (touches_in c ys)
-touches_more p c xs ys =
-    ap (λ ns. filter p (map (λ (x : Node). x.stamp) ns)) (filter-append (λ (x : Node). touches_kind c x.kind) xs ys)
-    ∙ ap (filter p) (map-append (λ (x : Node). x.stamp) (filter (λ (x : Node). touches_kind c x.kind) xs) (filter (λ (x : Node). touches_kind c x.kind) ys))
-    ∙ filter-append p (touches_in c xs) (touches_in c ys)
+pub reaches_more : (w : Bool) (p : ℕ → Bool) (c : ℕ) (xs ys : List Node) → filter p (reaches_in w c (xs ++ ys)) ≡ filter p (reaches_in w c xs) ++ filter p (reaches_in w c ys)
+reaches_more w p c xs ys =
+    ap (λ ns. filter p (map (λ (x : Node). x.stamp) ns)) (filter-append (λ (x : Node). is_cell c (cell_reached w x.kind)) xs ys)
+    ∙ ap (filter p) (map-append (λ (x : Node). x.stamp) (filter (λ (x : Node). is_cell c (cell_reached w x.kind)) xs) (filter (λ (x : Node). is_cell c (cell_reached w x.kind)) ys))
+    ∙ filter-append p (reaches_in w c xs) (reaches_in w c ys)
 
 -- the nodes of logs
 abbrev pub nodes_of : List Log → List Node
@@ -66,9 +65,38 @@ not_had ns n out = by (has ns n) refl where
   by true e = absurd (out (Contains-from_any {eq = λ x y. y == x} (λ x y h. sym (eqb-true y x h)) n ns e))
   by false e = e
 
+pub contains_had : (ns : List ℕ) (n : ℕ) → has ns n ≡ true → Contains ns n
+contains_had ns n e = Contains-from_any {eq = λ x y. y == x} (λ x y h. sym (eqb-true y x h)) n ns e
+
+pub had_at : (ns : List ℕ) (k n d : ℕ) → k < length ns → get_or ns k d ≡ n → has ns n ≡ true
+had_at [] k n d h e = absurd (omega arith)
+had_at (x ∷ ns) zero n d h e = ap (λ b. b || has ns n) (eq-eqb x n e)
+had_at (x ∷ ns) (suc k) n d h e = by (x == n) (had_at ns k n d (omega arith) e) where
+  by : (b : Bool) → has ns n ≡ true → (b || has ns n) ≡ true
+  by true q = refl
+  by false q = q
+
+pub is_had : (ns : List ℕ) (n : ℕ) → Contains ns n → has ns n ≡ true
+is_had ns n c = had_at ns c.0 n n c.1 c.2
+
+-- a number of a list that passes a test is among those that do
+pub kept_had : (p : ℕ → Bool) (n : ℕ) → p n ≡ true → (ns : List ℕ) → has ns n ≡ true → has (filter p ns) n ≡ true
+kept_had p n q [] h = h
+kept_had p n q (x ∷ ns) h = by (x == n) refl (p x) refl (kept_had p n q ns) h where
+  by : (a : Bool) → (x == n) ≡ a → (b : Bool) → p x ≡ b → (has ns n ≡ true → has (filter p ns) n ≡ true) → (a || has ns n) ≡ true → has (cond b (x ∷ filter p ns) (filter p ns)) n ≡ true
+  by true e true f more g = ap (λ c. c || has (filter p ns) n) e
+  by true e false f more g = absurd (cc (sym f ∙ ap p (eqb-true x n e) ∙ q))
+  by false e true f more g = ap (λ c. c || has (filter p ns) n) e ∙ more g
+  by false e false f more g = more g
+
+-- a test that tells what a list contains
+pub tells_had : (b : Bool) (ns : List ℕ) (n : ℕ) → b ≡ true ↔ Contains ns n → b ≡ has ns n
+tells_had true ns n h = sym (is_had ns n (h.0 refl))
+tells_had false ns n h = sym (not_had ns n (λ c. cc (h.1 c)))
+
 -- an access that does not pass is not found
-pub touches_none : (p : ℕ → Bool) (c : ℕ) (x : Node) → p x.stamp ≡ false → filter p (touches_in c (x ∷ [])) ≡ []
-touches_none p c x h = by (touches_kind c x.kind) where
+pub reaches_none : (w : Bool) (p : ℕ → Bool) (c : ℕ) (x : Node) → p x.stamp ≡ false → filter p (reaches_in w c (x ∷ [])) ≡ []
+reaches_none w p c x h = by (is_cell c (cell_reached w x.kind)) where
   by : (b : Bool) → filter p (map (λ (y : Node). y.stamp) (cond b (x ∷ []) [])) ≡ []
   by true = ap (λ q. cond q (x.stamp ∷ []) []) h
   by false = refl

@@ -56,6 +56,7 @@ EndsBlock (draw.End aborted) x = tokens.HasBlock x × (blocks_outside x.forks < 
 EndsBlock (draw.Access c wrote v) x = Unit {0}
 EndsBlock (draw.Fork left right gap) x = Unit {0}
 EndsBlock (draw.Out v) x = Unit {0}
+EndsBlock (draw.Cancel back) x = Unit {0}
 EndsBlock draw.Begin x = Unit {0}
 
 -- ## What steps make of it
@@ -80,6 +81,7 @@ abbrev pub drawn_token : Draw → (stamp : ℕ) → Token → Token
 drawn_token (draw.Access c wrote v) stamp x = tokens.made x (kind_of_access c wrote v) stamp
 drawn_token (draw.Fork left right gap) stamp x = if left == right then tokens.branched x stamp else tokens.forked x stamp left
 drawn_token (draw.Out v) stamp x = tokens.made x (kind.Out v) stamp
+drawn_token (draw.Cancel back) stamp x = tokens.made x (kind.Cancel back) stamp
 drawn_token draw.Begin stamp x = tokens.began x stamp
 drawn_token (draw.End aborted) stamp x = tokens.ended x (state_of_end aborted) stamp
 

@@ -214,6 +214,7 @@ abbrev pub added : Draw → ℕ
 added (draw.Access c wrote v) = 1
 added (draw.Fork left right gap) = 3
 added (draw.Out v) = 1
+added (draw.Cancel back) = 1
 added draw.Begin = 1
 added (draw.End aborted) = 0
 
@@ -221,6 +222,7 @@ abbrev pub drawn : Draw → (stamp : ℕ) → TrackParts → TrackParts
 drawn (draw.Access c wrote v) stamp x = made_at (settled x) (kind_of_access c wrote v) stamp
 drawn (draw.Fork left right gap) stamp x = forked_at (settled x) left right gap stamp
 drawn (draw.Out v) stamp x = made_at (settled x) (kind.Out v) stamp
+drawn (draw.Cancel back) stamp x = made_at (settled x) (kind.Cancel back) stamp
 drawn draw.Begin stamp x = track_in_block (settled x) stamp
 drawn (draw.End aborted) stamp x = closed_at (settled x) (state_of_end aborted) stamp
 

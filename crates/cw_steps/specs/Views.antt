@@ -188,6 +188,7 @@ abbrev pub columns_more : Draw → ℕ
 columns_more (draw.Fork left right gap) = columns_for left right
 columns_more (draw.Access c wrote v) = 0
 columns_more (draw.Out v) = 0
+columns_more (draw.Cancel back) = 0
 columns_more draw.Begin = 0
 columns_more (draw.End aborted) = 0
 
@@ -195,6 +196,7 @@ abbrev pub column_after : Draw → ℕ → ℕ
 column_after (draw.Fork left right gap) own = left
 column_after (draw.Access c wrote v) own = own
 column_after (draw.Out v) own = own
+column_after (draw.Cancel back) own = own
 column_after draw.Begin own = own
 column_after (draw.End aborted) own = own
 
@@ -202,6 +204,7 @@ abbrev pub gap_after : Draw → ℕ → ℕ
 gap_after (draw.Fork left right gap) own = gap
 gap_after (draw.Access c wrote v) own = own
 gap_after (draw.Out v) own = own
+gap_after (draw.Cancel back) own = own
 gap_after draw.Begin own = own
 gap_after (draw.End aborted) own = own
 
@@ -209,6 +212,7 @@ abbrev pub word_after : Draw → ℕ → ℕ
 word_after (draw.Fork left right gap) own = if left == right then own else 0
 word_after (draw.Access c wrote v) own = own
 word_after (draw.Out v) own = own
+word_after (draw.Cancel back) own = own
 word_after draw.Begin own = own
 word_after (draw.End aborted) own = own
 
@@ -220,6 +224,7 @@ abbrev pub coming_after : Draw → Option Coming → Option Coming
 coming_after (draw.Fork left right gap) old = coming_for left right gap old
 coming_after (draw.Access c wrote v) old = old
 coming_after (draw.Out v) old = old
+coming_after (draw.Cancel back) old = old
 coming_after draw.Begin old = old
 coming_after (draw.End aborted) old = old
 
@@ -227,6 +232,7 @@ abbrev pub turns_after : Draw → (number : ℕ) → View → List Turn
 turns_after (draw.Fork left right gap) n v = with_more (columns_for left right) v.word v.column v.turns
 turns_after (draw.Access c wrote x) n v = with_access (record { strand = v.column; stamp = n }) wrote x v.turns
 turns_after (draw.Out x) n v = v.turns
+turns_after (draw.Cancel back) n v = v.turns
 turns_after draw.Begin n v = v.turns
 turns_after (draw.End aborted) n v = v.turns
 
@@ -238,6 +244,7 @@ abbrev pub outer_after : Draw → View → List Whereabouts
 outer_after (draw.Fork left right gap) v = outer_for left right v
 outer_after (draw.Access c wrote x) v = v.outer
 outer_after (draw.Out x) v = v.outer
+outer_after (draw.Cancel back) v = v.outer
 outer_after draw.Begin v = v.outer
 outer_after (draw.End aborted) v = v.outer
 
@@ -247,6 +254,7 @@ abbrev pub arounds_after : Draw → (number : ℕ) → List (List ℕ) → List 
 arounds_after (draw.Fork left right gap) n ws = innermost ws ∷ ws
 arounds_after (draw.Access c wrote x) n ws = ws
 arounds_after (draw.Out x) n ws = ws
+arounds_after (draw.Cancel back) n ws = ws
 arounds_after draw.Begin n ws = (n ∷ innermost ws) ∷ outwards ws
 arounds_after (draw.End aborted) n ws = drop 1 (innermost ws) ∷ outwards ws
 
@@ -255,6 +263,7 @@ abbrev pub owns_after : Draw → ℕ → ℕ
 owns_after (draw.Fork left right gap) own = own + (if left == right then 0 else 1)
 owns_after (draw.Access c wrote v) own = own
 owns_after (draw.Out v) own = own
+owns_after (draw.Cancel back) own = own
 owns_after draw.Begin own = own
 owns_after (draw.End aborted) own = own
 
@@ -297,6 +306,7 @@ abbrev pub CanDraw : Key → View → Draw → Type 0
 CanDraw key v (draw.Fork left right gap) = CanFork key v left right gap
 CanDraw key v (draw.Access c wrote x) = CanAccess key v c wrote x
 CanDraw key v (draw.Out x) = Unit {0}
+CanDraw key v (draw.Cancel back) = Unit {0}
 CanDraw key v draw.Begin = Unit {0}
 CanDraw key v (draw.End aborted) = Unit {0}
 

@@ -1,23 +1,35 @@
-//! What is beneath a token's place in its logs. Each call walks the logs once, and takes no memory.
-ghost use Rattle.std.specs.Prelude.{◌≡◌, ◌==◌, ◌&&◌, ◌||◌, ◌≤◌, ◌∷◌, [], drop, filter, length, nat_le, nat_lt, IfSome, None};
+//! What is beneath a token's place in its logs. Each call walks the logs once, and takes no memory. `writes` says that only writes count,
+//! and not all accesses.
+ghost use Rattle.std.specs.Prelude.{◌≡◌, ◌==◌, ◌&&◌, ◌||◌, ◌≤◌, ◌∷◌, [], drop, false, filter, length, nat_le, nat_lt, IfSome, None};
+ghost use Rattle.std.specs.List.Sorted.{IsStrictlyIncreasing};
 ghost use Rattle.cw_tree.specs.AccessStacks.{stamps};
 ghost use Rattle.cw_tree.specs.Walks.{has};
-ghost use Rattle.cw_steps.specs.Beneath.{cell_touched, cells_beneath, cells_touched, least_with, logs_beneath, touched_beneath, touches_in};
+ghost use Rattle.cw_steps.specs.Beneath.{cell_reached, cells_beneath, cells_reached, least_with, logs_beneath, nodes_beneath, reaches_in, touched_beneath};
 ghost use Rattle.cw_steps.specs.Stands.{token_of};
 
 use crate::{StrandToken, Track};
 use cw_log::Log;
-use cw_stack::Cell;
-use cw_tree::{Kind, Node};
+use cw_tree::{Entry, Kind, Node};
 
-/// Returns the cell that a node touched, if the node is an access.
-fn cell_of(node: &Node) -> Option<u32>
-    ensures { result ≡ cell_touched node.now.kind }
+/// Returns the cell of an access.
+fn cell_of(node: &Node, writes: bool) -> Option<u32>
+    ensures { result ≡ cell_reached writes node.now.kind }
 {
     match node.kind {
-        Kind::Read { cell, .. } | Kind::Write { cell, .. } => Some(cell),
+        Kind::Write { cell, .. } => Some(cell),
+        Kind::Read { cell, .. } => { if writes { None } else { Some(cell) } }
         _ => None,
     }
+}
+
+/// Returns whether one of the entries, whose stamps rise, has this stamp.
+fn has_stamp(entries: &[Entry], stamp: u64) -> bool
+    requires { IsStrictlyIncreasing (stamps entries.now) }
+    ensures { result ≡ has (stamps entries.now) stamp }
+{
+    entries
+        .binary_search_by_key(&stamp, |entry| entry.mark.stamp)
+        .is_ok()
 }
 
 /// Returns the nodes from `place` on.
@@ -41,10 +53,10 @@ fn lies_beneath(before: bool, track: &Track, log: &Log) -> bool
 
 // ## Cells
 
-fn with_cell(least: Option<u32>, from: u32, node: &Node) -> Option<u32>
-    ensures { result ≡ least_with least (filter (nat_le from) (cells_touched (node.now ∷ []))) }
+fn with_cell(least: Option<u32>, from: u32, node: &Node, writes: bool) -> Option<u32>
+    ensures { result ≡ least_with least (filter (nat_le from) (cells_reached writes (node.now ∷ []))) }
 {
-    let Some(cell) = cell_of(node) else {
+    let Some(cell) = cell_of(node, writes) else {
         return least;
     };
     if cell < from {
@@ -56,28 +68,35 @@ fn with_cell(least: Option<u32>, from: u32, node: &Node) -> Option<u32>
     }
 }
 
-fn with_cells(found: Option<u32>, from: u32, nodes: &[Node]) -> Option<u32>
-    ensures { result ≡ least_with found (filter (nat_le from) (cells_touched nodes.now)) }
+fn with_cells(found: Option<u32>, from: u32, nodes: &[Node], writes: bool) -> Option<u32>
+    ensures { result ≡ least_with found (filter (nat_le from) (cells_reached writes nodes.now)) }
 {
     let mut least = found;
     for node in nodes {
-        least = with_cell(least, from, node);
+        least = with_cell(least, from, node, writes);
     }
     least
 }
 
 // ## Entries
 
-fn with_entry(least: Option<u64>, number: u32, cell: &Cell, node: &Node) -> Option<u64>
-    ensures { result ≡ least_with least (filter (has (stamps (drop cell.now.cleaned cell.now.entries))) (touches_in number (node.now ∷ []))) }
+fn with_entry(
+    least: Option<u64>,
+    number: u32,
+    entries: &[Entry],
+    node: &Node,
+    writes: bool,
+) -> Option<u64>
+    requires { IsStrictlyIncreasing (stamps entries.now) }
+    ensures { result ≡ least_with least (filter (has (stamps entries.now)) (reaches_in writes number (node.now ∷ []))) }
 {
-    let Some(touched) = cell_of(node) else {
+    let Some(cell) = cell_of(node, writes) else {
         return least;
     };
-    if touched != number {
+    if cell != number {
         return least;
     }
-    if !cell.may_roll(node.stamp) {
+    if !has_stamp(entries, node.stamp) {
         return least;
     }
     match least {
@@ -86,12 +105,19 @@ fn with_entry(least: Option<u64>, number: u32, cell: &Cell, node: &Node) -> Opti
     }
 }
 
-fn with_entries(found: Option<u64>, number: u32, cell: &Cell, nodes: &[Node]) -> Option<u64>
-    ensures { result ≡ least_with found (filter (has (stamps (drop cell.now.cleaned cell.now.entries))) (touches_in number nodes.now)) }
+fn with_entries(
+    found: Option<u64>,
+    number: u32,
+    entries: &[Entry],
+    nodes: &[Node],
+    writes: bool,
+) -> Option<u64>
+    requires { IsStrictlyIncreasing (stamps entries.now) }
+    ensures { result ≡ least_with found (filter (has (stamps entries.now)) (reaches_in writes number nodes.now)) }
 {
     let mut least = found;
     for node in nodes {
-        least = with_entry(least, number, cell, node);
+        least = with_entry(least, number, entries, node, writes);
     }
     least
 }
@@ -112,38 +138,59 @@ impl StrandToken {
         false
     }
 
-    /// Returns the smallest number of a cell, from `from` on, that an access beneath the token's place touched.
-    pub fn next_touched(&self, from: u32) -> Option<u32>
-        ensures least { result ≡ least_with None (filter (nat_le from) (cells_beneath (token_of self.now))) }
+    /// Returns the smallest number of a cell, from `from` on, that was reached beneath the token's place.
+    pub(crate) fn least_cell(&self, from: u32, writes: bool) -> Option<u32>
+        ensures least { result ≡ least_with None (filter (nat_le from) (cells_reached writes (nodes_beneath (token_of self.now)))) }
         ensures from { IfSome result (λ c. from ≤ c) }
     {
         let track = &self.track;
-        let mut least = with_cells(None, from, since(track.nodes.as_slice(), track.place));
+        let mut least = with_cells(
+            None,
+            from,
+            since(track.nodes.as_slice(), track.place),
+            writes,
+        );
         let mut beneath = false;
         for log in track.joined.iter() {
             beneath = lies_beneath(beneath, track, log);
             if beneath {
-                least = with_cells(least, from, log.nodes.as_slice());
+                least = with_cells(least, from, log.nodes.as_slice(), writes);
             }
         }
         least
     }
 
-    /// Returns the smallest stamp of an access of cell `number` beneath the token's place that has an entry in `cell`, one that can be
-    /// rolled back.
-    pub fn first_entry(&self, number: u32, cell: &Cell) -> Option<u64>
-        ensures { result ≡ least_with None (filter (has (stamps (drop cell.now.cleaned cell.now.entries))) (touched_beneath (token_of self.now) number)) }
+    /// Returns the smallest stamp that one of `entries` and an access of cell `number` beneath the token's place have in common.
+    pub(crate) fn least_entry(&self, number: u32, entries: &[Entry], writes: bool) -> Option<u64>
+        requires { IsStrictlyIncreasing (stamps entries.now) }
+        ensures { result ≡ least_with None (filter (has (stamps entries.now)) (reaches_in writes number (nodes_beneath (token_of self.now)))) }
     {
         let track = &self.track;
         let own = since(track.nodes.as_slice(), track.place);
-        let mut least = with_entries(None, number, cell, own);
+        let mut least = with_entries(None, number, entries, own, writes);
         let mut beneath = false;
         for log in track.joined.iter() {
             beneath = lies_beneath(beneath, track, log);
             if beneath {
-                least = with_entries(least, number, cell, log.nodes.as_slice());
+                least = with_entries(least, number, entries, log.nodes.as_slice(), writes);
             }
         }
         least
+    }
+
+    /// Returns the smallest number of a cell, from `from` on, that an access beneath the token's place touched.
+    pub fn next_touched(&self, from: u32) -> Option<u32>
+        ensures least { result ≡ least_with None (filter (nat_le from) (cells_beneath (token_of self.now))) }
+        ensures from { IfSome result (λ c. from ≤ c) }
+    {
+        self.least_cell(from, false)
+    }
+
+    /// Returns the smallest stamp of an access of cell `number` beneath the token's place that has an entry among `entries`.
+    pub fn first_entry(&self, number: u32, entries: &[Entry]) -> Option<u64>
+        requires { IsStrictlyIncreasing (stamps entries.now) }
+        ensures { result ≡ least_with None (filter (has (stamps entries.now)) (touched_beneath (token_of self.now) number)) }
+    {
+        self.least_entry(number, entries, false)
     }
 }

@@ -105,7 +105,7 @@ impl Shared {
             track.behind,
             track.second,
         );
-        track.draw(&what, number);
+        track.draw(what, number);
         number
     }
 

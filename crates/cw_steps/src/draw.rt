@@ -1,13 +1,16 @@
 //! What steps are for.
+use cw_base::Seq;
+use cw_code::Back;
 use cw_tree::Conflict;
 
 /// What a number is drawn for. An access has the cell's value after it. A fork has the columns of both strands, and the gap that
-/// both then use; for an inline fork these are the forking strand's own.
-#[derive(Clone, Copy, Debug)]
+/// both then use; for an inline fork these are the forking strand's own. A cancel has what it puts back.
+#[derive(Drop)]
 pub enum Draw {
     Access { cell: u32, wrote: bool, value: i64 },
     Fork { left: u32, right: u32, gap: u32 },
     Out { value: i64 },
+    Cancel { back: Seq<Back> },
     Begin,
     End { aborted: bool },
 }

@@ -18,6 +18,7 @@ mod seats;
 mod table;
 mod track;
 mod view;
+mod written;
 
 pub use draw::{Aim, Draw, Home};
 pub use places::Place;

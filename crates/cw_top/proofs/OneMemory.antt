@@ -71,13 +71,13 @@ of_command (Load transfers workers) left old new r text is by run told written =
     of_declarations (Load transfers workers) (load_tree transfers) [] default_limits r told.source text old new is by.tree by.words by.limits run told.its told.told written
 of_command (Run ws ls w p) None old new r text is by run told written = tt
 of_command (Run ws ls w p) (Some bytes) old new r text is by (source, spelled, run) told written =
-    (source, spelled, of_declarations (Run ws ls w p) source.items ws ls r told.source text old new is by.tree by.words by.limits run (same_items 1 bytes told.source source told.its spelled) told.told written)
+    (source, spelled, of_declarations (Run ws ls w p) source.items ws ls r told.source text old new is by.tree by.words by.limits run (same_items 2 bytes told.source source told.its spelled) told.told written)
 of_command (Sim ws ls w s p) None old new r text is by run told written = tt
 of_command (Sim ws ls w s p) (Some bytes) old new r text is by (source, spelled, run) told written =
     (source, spelled, of_declarations (Sim ws ls w s p) source.items ws ls r told.source text old new is by.tree by.words by.limits run (same_items 2 bytes told.source source told.its spelled) told.told written)
 of_command (Keep ws ls w) None old new r text is by run told written = tt
 of_command (Keep ws ls w) (Some bytes) old new r text is by (source, spelled, run) told written =
-    (source, spelled, of_declarations (Keep ws ls w) source.items ws ls r told.source text old new is by.tree by.words by.limits run (same_items 1 bytes told.source source told.its spelled) told.told written)
+    (source, spelled, of_declarations (Keep ws ls w) source.items ws ls r told.source text old new is by.tree by.words by.limits run (same_items 2 bytes told.source source told.its spelled) told.told written)
 of_command (Races ws ls) None old new r text is by run told written = tt
 of_command (Races ws ls) (Some bytes) old new r text is by (source, spelled, run) told written =
     (source, spelled, of_declarations (Races ws ls) source.items ws ls r told.source text old new is by.tree by.words by.limits run (same_items 2 bytes told.source source told.its spelled) told.told written)

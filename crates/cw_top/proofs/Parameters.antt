@@ -57,8 +57,8 @@ fits l (Some bytes) words p spells t misfit = misfit.1 (asks l (length words) by
 
 -- a command is of no use where its program takes another number of words; that of a load takes none, as it has
 pub of_no_use : (co : Command) (left : Option (List ℕ)) (p : Program) (r w : Type 0) → IsItsProgram co left p → (TakesWords p (length (words_of co)) → ⊥) → HasCause (Some co) Usage left r w
-of_no_use (Run ws ls wk rp) left p r w its other = misfits 1 left ws p its other
+of_no_use (Run ws ls wk rp) left p r w its other = misfits 2 left ws p its other
 of_no_use (Sim ws ls wk sc rp) left p r w its other = misfits 2 left ws p its other
-of_no_use (Keep ws ls wk) left p r w its other = misfits 1 left ws p its other
+of_no_use (Keep ws ls wk) left p r w its other = misfits 2 left ws p its other
 of_no_use (Races ws ls) left p r w its other = misfits 2 left ws p its other
 of_no_use (Load tr wk) left p r w its other = other (code_takes (load_tree tr) p its 0 (takes_no_words tr))

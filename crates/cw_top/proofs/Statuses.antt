@@ -39,9 +39,9 @@ not_low status (inr one) = (λ h. cc, λ h. cc, λ h. cc)
 -- running out of memory needs no cause
 pub memory_cause : (command : Option Command) (n : Note) (left : Option (List ℕ)) (r w : Type 0) → n ≡ note.Memory → HasCause command n left r w
 memory_cause None n left r w is = inr is
-memory_cause (Some (Run ws ls wk p)) n left r w is = subst (λ m. IsCauseOfRun 1 ws m left r w) (sym is) tt
+memory_cause (Some (Run ws ls wk p)) n left r w is = subst (λ m. IsCauseOfRun 2 ws m left r w) (sym is) tt
 memory_cause (Some (Sim ws ls wk sc p)) n left r w is = subst (λ m. IsCauseOfRun 2 ws m left r w) (sym is) tt
-memory_cause (Some (Keep ws ls wk)) n left r w is = subst (λ m. IsCauseOfRun 1 ws m left r w) (sym is) tt
+memory_cause (Some (Keep ws ls wk)) n left r w is = subst (λ m. IsCauseOfRun 2 ws m left r w) (sym is) tt
 memory_cause (Some (Races ws ls)) n left r w is = subst (λ m. IsCauseOfRun 2 ws m left r w) (sym is) tt
 memory_cause (Some (Load tr wk)) n left r w is = subst (λ m. IsCauseOfTelling m w) (sym is) tt
 
@@ -56,11 +56,11 @@ run_cause l words (note.Text f) left r w cause = absurd cause
 run_cause l words (note.Name f) left r w cause = absurd cause
 
 pub telling_cause : (co : Command) (n : Note) (left : Option (List ℕ)) (r w : Type 0) → IsCauseOfTelling n w → HasCause (Some co) n left r w
-telling_cause (Run ws ls wk p) n left r w cause = run_cause 1 ws n left r w cause
+telling_cause (Run ws ls wk p) n left r w cause = run_cause 2 ws n left r w cause
 telling_cause (Sim ws ls wk sc p) n left r w cause = run_cause 2 ws n left r w cause
 telling_cause (Load tr wk) n left r w cause = cause
 telling_cause (Races ws ls) n left r w cause = run_cause 2 ws n left r w cause
-telling_cause (Keep ws ls wk) n left r w cause = run_cause 1 ws n left r w cause
+telling_cause (Keep ws ls wk) n left r w cause = run_cause 2 ws n left r w cause
 
 no_end : (e : RecordEnd) (status : ℕ) → status ≡ status_of_end e → (status ≢ 2) × (status ≢ 3) × (status ≢ 4) × (status ≢ 5)
 no_end (Finished m o) status is = (λ h. cc, λ h. cc, λ h. cc, λ h. cc)
@@ -106,9 +106,9 @@ usage_of l words kept status (note.Name f) left r w (none, is) cause h = cc
 
 pub usage : (command : Option Command) (kept : Option Record) (status : ℕ) (n : Note) (left : Option (List ℕ)) (r w : Type 0) → IsStatus kept status n → HasCause command n left r w → status ≡ 2 → IsMisused command left
 usage None kept status n left r w is cause h = tt
-usage (Some (Run ws ls wk p)) kept status n left r w is cause h = usage_of 1 ws kept status n left r w is cause h
+usage (Some (Run ws ls wk p)) kept status n left r w is cause h = usage_of 2 ws kept status n left r w is cause h
 usage (Some (Sim ws ls wk sc p)) kept status n left r w is cause h = usage_of 2 ws kept status n left r w is cause h
-usage (Some (Keep ws ls wk)) kept status n left r w is cause h = usage_of 1 ws kept status n left r w is cause h
+usage (Some (Keep ws ls wk)) kept status n left r w is cause h = usage_of 2 ws kept status n left r w is cause h
 usage (Some (Races ws ls)) kept status n left r w is cause h = usage_of 2 ws kept status n left r w is cause h
 usage (Some (Load tr wk)) kept status n left r w is cause h = (load_causes kept status n w is cause).0 h
 
@@ -123,9 +123,9 @@ read_fault_of l words kept status (note.Name f) left r w (none, is) cause h = cc
 
 pub read_fault : (command : Option Command) (kept : Option Record) (status : ℕ) (n : Note) (left : Option (List ℕ)) (r w : Type 0) → IsStatus kept status n → HasCause command n left r w → status ≡ 3 → r
 read_fault None kept status n left r w is cause h = absurd ((not_low status (of_none kept status n cause is)).0 h)
-read_fault (Some (Run ws ls wk p)) kept status n left r w is cause h = read_fault_of 1 ws kept status n left r w is cause h
+read_fault (Some (Run ws ls wk p)) kept status n left r w is cause h = read_fault_of 2 ws kept status n left r w is cause h
 read_fault (Some (Sim ws ls wk sc p)) kept status n left r w is cause h = read_fault_of 2 ws kept status n left r w is cause h
-read_fault (Some (Keep ws ls wk)) kept status n left r w is cause h = read_fault_of 1 ws kept status n left r w is cause h
+read_fault (Some (Keep ws ls wk)) kept status n left r w is cause h = read_fault_of 2 ws kept status n left r w is cause h
 read_fault (Some (Races ws ls)) kept status n left r w is cause h = read_fault_of 2 ws kept status n left r w is cause h
 read_fault (Some (Load tr wk)) kept status n left r w is cause h = absurd ((load_causes kept status n w is cause).1 h)
 
@@ -140,9 +140,9 @@ write_fault_of l words kept status (note.Name f) left r w (none, is) cause h = c
 
 pub write_fault : (command : Option Command) (kept : Option Record) (status : ℕ) (n : Note) (left : Option (List ℕ)) (r w : Type 0) → IsStatus kept status n → HasCause command n left r w → status ≡ 4 → w
 write_fault None kept status n left r w is cause h = absurd ((not_low status (of_none kept status n cause is)).1 h)
-write_fault (Some (Run ws ls wk p)) kept status n left r w is cause h = write_fault_of 1 ws kept status n left r w is cause h
+write_fault (Some (Run ws ls wk p)) kept status n left r w is cause h = write_fault_of 2 ws kept status n left r w is cause h
 write_fault (Some (Sim ws ls wk sc p)) kept status n left r w is cause h = write_fault_of 2 ws kept status n left r w is cause h
-write_fault (Some (Keep ws ls wk)) kept status n left r w is cause h = write_fault_of 1 ws kept status n left r w is cause h
+write_fault (Some (Keep ws ls wk)) kept status n left r w is cause h = write_fault_of 2 ws kept status n left r w is cause h
 write_fault (Some (Races ws ls)) kept status n left r w is cause h = write_fault_of 2 ws kept status n left r w is cause h
 write_fault (Some (Load tr wk)) kept status n left r w is cause h = load_writes kept status n w is cause h
 
@@ -157,9 +157,9 @@ refused_of l words kept status (note.Name f) left r w is cause h = cause
 
 pub refused : (command : Option Command) (kept : Option Record) (status : ℕ) (n : Note) (left : Option (List ℕ)) (r w : Type 0) → IsStatus kept status n → HasCause command n left r w → status ≡ 5 → IsRefusedFor command n left
 refused None kept status n left r w is cause h = absurd ((not_low status (of_none kept status n cause is)).2 h)
-refused (Some (Run ws ls wk p)) kept status n left r w is cause h = refused_of 1 ws kept status n left r w is cause h
+refused (Some (Run ws ls wk p)) kept status n left r w is cause h = refused_of 2 ws kept status n left r w is cause h
 refused (Some (Sim ws ls wk sc p)) kept status n left r w is cause h = refused_of 2 ws kept status n left r w is cause h
-refused (Some (Keep ws ls wk)) kept status n left r w is cause h = refused_of 1 ws kept status n left r w is cause h
+refused (Some (Keep ws ls wk)) kept status n left r w is cause h = refused_of 2 ws kept status n left r w is cause h
 refused (Some (Races ws ls)) kept status n left r w is cause h = refused_of 2 ws kept status n left r w is cause h
 refused (Some (Load tr wk)) kept status n left r w is cause h = absurd ((load_causes kept status n w is cause).2 h)
 
@@ -275,11 +275,11 @@ kept_run command kept left run x is = subst (λ (k : Option Record). IfSome k (I
 pub misused : (command : Option Command) (kept : Option Record) (status : ℕ) (n : Note) (left : Option (List ℕ)) (r w : Type 0) → IsStatus kept status n → HasCause command n left r w → IfSome kept (IsRunOf command left) → IsSurelyMisused command left → (r → ⊥) → MayBeMisusedWith command status
 misused None kept status n left r w is cause run misfit no_r = of_none kept status n cause is
 misused (Some (Run ws ls wk p)) kept status n left r w is cause run misfit no_r =
-    misused_of 1 ws kept status n left r w is cause misfit no_r (λ x e. let by = kept_run (Some (Run ws ls wk p)) kept left run x e in run_fits 1 ws left x by.program by.words by.takes misfit)
+    misused_of 2 ws kept status n left r w is cause misfit no_r (λ x e. let by = kept_run (Some (Run ws ls wk p)) kept left run x e in run_fits 2 ws left x by.program by.words by.takes misfit)
 misused (Some (Sim ws ls wk sc p)) kept status n left r w is cause run misfit no_r =
     misused_of 2 ws kept status n left r w is cause misfit no_r (λ x e. let by = kept_run (Some (Sim ws ls wk sc p)) kept left run x e in run_fits 2 ws left x by.program by.words by.takes misfit)
 misused (Some (Keep ws ls wk)) kept status n left r w is cause run misfit no_r =
-    misused_of 1 ws kept status n left r w is cause misfit no_r (λ x e. let by = kept_run (Some (Keep ws ls wk)) kept left run x e in run_fits 1 ws left x by.program by.words by.takes misfit)
+    misused_of 2 ws kept status n left r w is cause misfit no_r (λ x e. let by = kept_run (Some (Keep ws ls wk)) kept left run x e in run_fits 2 ws left x by.program by.words by.takes misfit)
 misused (Some (Races ws ls)) kept status n left r w is cause run misfit no_r =
     misused_of 2 ws kept status n left r w is cause misfit no_r (λ x e. let by = kept_run (Some (Races ws ls)) kept left run x e in run_fits 2 ws left x by.program by.words by.takes misfit)
 misused (Some (Load tr wk)) kept status n left r w is cause run misfit no_r = absurd misfit
@@ -312,11 +312,11 @@ refuses_of l words kept status (note.Name f) left r w (none, is) cause fault why
 pub refuses : (command : Option Command) (kept : Option Record) (status : ℕ) (n : Note) (left : Option (List ℕ)) (r w : Type 0) → IsStatus kept status n → HasCause command n left r w → IfSome kept (IsRunOf command left) → (fault : Note) → IsSurelyRefused command left fault → (r → ⊥) → IsRefusedWith fault status n
 refuses None kept status n left r w is cause run fault why no_r = absurd why
 refuses (Some (Run ws ls wk p)) kept status n left r w is cause run fault why no_r =
-    refuses_of 1 ws kept status n left r w is cause fault why no_r (λ x e. let by = kept_run (Some (Run ws ls wk p)) kept left run x e in run_accepted 1 left x fault by.program why)
+    refuses_of 2 ws kept status n left r w is cause fault why no_r (λ x e. let by = kept_run (Some (Run ws ls wk p)) kept left run x e in run_accepted 2 left x fault by.program why)
 refuses (Some (Sim ws ls wk sc p)) kept status n left r w is cause run fault why no_r =
     refuses_of 2 ws kept status n left r w is cause fault why no_r (λ x e. let by = kept_run (Some (Sim ws ls wk sc p)) kept left run x e in run_accepted 2 left x fault by.program why)
 refuses (Some (Keep ws ls wk)) kept status n left r w is cause run fault why no_r =
-    refuses_of 1 ws kept status n left r w is cause fault why no_r (λ x e. let by = kept_run (Some (Keep ws ls wk)) kept left run x e in run_accepted 1 left x fault by.program why)
+    refuses_of 2 ws kept status n left r w is cause fault why no_r (λ x e. let by = kept_run (Some (Keep ws ls wk)) kept left run x e in run_accepted 2 left x fault by.program why)
 refuses (Some (Races ws ls)) kept status n left r w is cause run fault why no_r =
     refuses_of 2 ws kept status n left r w is cause fault why no_r (λ x e. let by = kept_run (Some (Races ws ls)) kept left run x e in run_accepted 2 left x fault by.program why)
 refuses (Some (Load tr wk)) kept status n left r w is cause run fault why no_r = absurd why
@@ -344,9 +344,9 @@ load_complete co kept status (note.Name f) w is cause ready done no_w = absurd c
 
 pub complete : (command : Option Command) (kept : Option Record) (status : ℕ) (n : Note) (left : Option (List ℕ)) (r w : Type 0) → IsStatus kept status n → HasCause command n left r w → IfSome command IsReady → IfSome kept (IsDoneAs command) → Accepts command left → (FailsToRead command r → ⊥) → (w → ⊥) → MayEndWith command status
 complete None kept status n left r w is cause ready done accepted no_r no_w = of_none kept status n cause is
-complete (Some (Run ws ls wk p)) kept status n left r w is cause ready done accepted no_r no_w = complete_of (Run ws ls wk p) 1 ws kept status n left r w is cause ready done accepted no_r no_w
+complete (Some (Run ws ls wk p)) kept status n left r w is cause ready done accepted no_r no_w = complete_of (Run ws ls wk p) 2 ws kept status n left r w is cause ready done accepted no_r no_w
 complete (Some (Sim ws ls wk sc p)) kept status n left r w is cause ready done accepted no_r no_w = complete_of (Sim ws ls wk sc p) 2 ws kept status n left r w is cause ready done accepted no_r no_w
-complete (Some (Keep ws ls wk)) kept status n left r w is cause ready done accepted no_r no_w = complete_of (Keep ws ls wk) 1 ws kept status n left r w is cause ready done accepted no_r no_w
+complete (Some (Keep ws ls wk)) kept status n left r w is cause ready done accepted no_r no_w = complete_of (Keep ws ls wk) 2 ws kept status n left r w is cause ready done accepted no_r no_w
 complete (Some (Races ws ls)) kept status n left r w is cause ready done accepted no_r no_w = complete_of (Races ws ls) 2 ws kept status n left r w is cause ready done accepted no_r no_w
 complete (Some (Load tr wk)) kept status n left r w is cause ready done accepted no_r no_w = load_complete (Load tr wk) kept status n w is cause ready done no_w
 

@@ -9,15 +9,12 @@ use Rattle.cw_strand.specs.Names.{naming_fault, Fault}
 use Rattle.cw_code.specs.declared.program.Program.{Program}
 use Rattle.cw_strand.specs.Programs.{IsProgramOf}
 use Rattle.cw_words.specs.declared.command.Command.{Command}
-use Rattle.cw_words.specs.declared.command.Command.TheVariants.{Sim, Races}
 use Rattle.cw_top.specs.declared.outcome.Note.{Note}
 use Rattle.cw_top.specs.declared.outcome.Note.TheVariants.{Text, Name}
 
--- the newest language in which a command reads its source: running threads give up no block yet
+-- the newest language in which a command reads its source
 abbrev pub newest_language : Command → ℕ
-newest_language (Sim words limits workers schedule report) = 2
-newest_language (Races words limits) = 2
-newest_language command = 1
+newest_language command = 2
 
 abbrev pub note_of_fault : Fault → Option Note
 note_of_fault None = None

@@ -1,12 +1,11 @@
 -- The run that a command keeps: of which program, with which words and limits, and who did it. What depends on the command is a
 -- function of it, with a case for words that are no command. So a further command adds its cases where it differs from the others,
 -- and changes no clause.
-use Rattle.std.specs.Prelude.{◌≡◌, ◌≢◌, ◌<◌, ◌≤◌, ℕ, List, length, false, Option, Some, Ok, IfSome, IsSomeAnd}
+use Rattle.std.specs.Prelude.{◌≡◌, ◌≢◌, ◌<◌, ◌≤◌, ℕ, List, length, Option, Some, Ok, IfSome, IsSomeAnd}
 use Rattle.cw_io.specs.declared.schedule.Schedule.{Schedule}
 use Rattle.cw_text.specs.Syntax.{Source}
 use Rattle.cw_text.specs.Text.{program}
 use Rattle.cw_code.specs.declared.program.Program.{Program}
-use Rattle.cw_code.specs.Programs.{cancels}
 use Rattle.cw_strand.specs.Programs.{IsCompiled, IsProgramOf}
 use Rattle.cw_tree.specs.Walks.{IsNumbered}
 use Rattle.cw_job.specs.Jobs.{TakesWords}
@@ -60,12 +59,6 @@ IsItsSource c left source = IfSome left (λ bytes. program (newest_language c) b
 abbrev pub IsItsProgram : Command → (left : Option (List ℕ)) → Program → Type 0
 IsItsProgram (Load transfers workers) left p = IsProgramOf (load_tree transfers) p
 IsItsProgram c left p = IfSome left (λ bytes. Spells (newest_language c) bytes p)
-
--- running threads give up no block yet
-abbrev pub MayCancel : Command → Program → Type 0
-MayCancel (Sim words limits workers schedule report) p = Unit {0}
-MayCancel (Races words limits) p = Unit {0}
-MayCancel c p = cancels p.code ≡ false
 
 -- A run of this command: of its program, which takes its words, with its words and limits. It has its outputs, and its tree is
 -- numbered depth first.

@@ -1,6 +1,5 @@
-ghost use Rattle.std.specs.Prelude.{◌≤◌, ◌≡◌, false, IfOk, string_bytes};
+ghost use Rattle.std.specs.Prelude.{◌≤◌, ◌≡◌, IfOk, string_bytes};
 ghost use Rattle.cw_text.specs.Syntax.{source_of};
-ghost use Rattle.cw_code.specs.Programs.{cancels};
 ghost use Rattle.cw_strand.specs.Programs.{IsProgramOf};
 ghost use Rattle.cw_gen.specs.Load.{load_tree};
 ghost use Rattle.cw_words.specs.Words.{most_transfers};
@@ -18,7 +17,6 @@ pub fn compiled_load(alloc: Global, transfers: u32) -> Result<Compiled, OutOfMem
     requires most { transfers ≤ most_transfers }
     ensures tree { IfOk result (λ c. (source_of c.ast).items ≡ load_tree transfers) }
     ensures its { IfOk result (λ c. IsProgramOf (source_of c.ast).items c.program) }
-    ensures cancels { IfOk result (λ c. cancels c.program.code ≡ false) }
 {
     let ast = load_program(alloc, transfers)?;
     // A hint to the prover: no name is at fault.

@@ -1,8 +1,7 @@
-ghost use Rattle.std.specs.Prelude.{◌≡◌, ◌-◌, ◌<◌, ◌≤◌, ◌⊎◌, length, false, Ok, IfOk, IfErr, IfSome, OnOk};
+ghost use Rattle.std.specs.Prelude.{◌≡◌, ◌-◌, ◌<◌, ◌≤◌, ◌⊎◌, length, Ok, IfOk, IfErr, IfSome, OnOk};
 ghost use Rattle.cw_text.specs.Syntax.{source_of};
 ghost use Rattle.cw_text.specs.Text.{program};
 ghost use Rattle.cw_io.specs.Outside.{IsDry, Rose, RunsDry, Takes};
-ghost use Rattle.cw_code.specs.Programs.{cancels};
 ghost use Rattle.cw_strand.specs.Programs.{IsCompiled, IsProgramOf};
 ghost use Rattle.cw_top.specs.Taken.{GivesOn, RisesAtMost, TakesAtMost, most_bytes};
 ghost use Rattle.cw_top.specs.Reasons.{WhyNoRun, WhyRefused, WhyStopped};
@@ -71,7 +70,6 @@ fn program_of(alloc: Global, bytes: &[u8], newest: u32) -> Result<Compiled, Refu
     ensures spelled { IfOk result (λ c. program newest bytes.now ≡ Ok (source_of c.ast)) }
     ensures its { IfOk result (λ c. IsProgramOf (source_of c.ast).items c.program) }
     ensures compiled { IfOk result (λ c. IsCompiled c.program) }
-    ensures cancels { newest ≡ 1 → IfOk result (λ c. cancels c.program.code ≡ false) }
     ensures why { IfErr result (λ r. WhyRefused newest r bytes.now) }
 {
     let ast = read_language(alloc, bytes, newest)?;
@@ -94,7 +92,6 @@ pub fn program_from<S: Source>(
     ensures spelled { IfOk result (λ c. IfSome (S.left source.old) (λ bytes. program newest bytes ≡ Ok (source_of c.ast))) }
     ensures its { IfOk result (λ c. IsProgramOf (source_of c.ast).items c.program) }
     ensures compiled { IfOk result (λ c. IsCompiled c.program) }
-    ensures cancels { newest ≡ 1 → IfOk result (λ c. cancels c.program.code ≡ false) }
 {
     let bytes = read_all(alloc, source)?;
     Ok(program_of(alloc, bytes.as_slice(), newest)?)

@@ -1,7 +1,6 @@
-ghost use Rattle.std.specs.Prelude.{◌≡◌, ◌≢◌, ◌≤◌, ◌<◌, ◌↔◌, false, None, Some, length, IfOk, IfErr, IfSome, IsErrOf, IsTrue, OnOk};
+ghost use Rattle.std.specs.Prelude.{◌≡◌, ◌≢◌, ◌≤◌, ◌<◌, ◌↔◌, None, Some, length, IfOk, IfErr, IfSome, IsErrOf, IsTrue, OnOk};
 ghost use Rattle.cw_io.specs.Outside.{Rose};
 ghost use Rattle.cw_text.specs.Syntax.{source_of};
-ghost use Rattle.cw_code.specs.Programs.{cancels};
 ghost use Rattle.cw_strand.specs.Programs.{IsCompiled, IsProgramOf};
 ghost use Rattle.cw_tree.specs.Walks.{IsNumbered};
 ghost use Rattle.cw_job.specs.Jobs.{TakesWords};
@@ -10,8 +9,7 @@ ghost use Rattle.cw_pool.specs.Recorded.{IsOfOneWorker};
 ghost use Rattle.cw_top.specs.declared.reasons.NoRun.TheVariants.{Misfit};
 ghost use Rattle.cw_top.specs.Outcome.{HasCause};
 ghost use Rattle.cw_top.specs.Reasons.{note_of};
-ghost use Rattle.cw_top.specs.Refusals.{newest_language};
-ghost use Rattle.cw_top.specs.Runs.{HasSeveralThreads, IsDoneBy, IsItsSource, IsOfThreads, IsReady, IsRunOf, MayCancel};
+ghost use Rattle.cw_top.specs.Runs.{HasSeveralThreads, IsDoneBy, IsItsSource, IsOfThreads, IsReady, IsRunOf};
 ghost use Rattle.cw_top.specs.Taken.{HasRead, RisesAtMost, TakesAtMost, most_ends, most_read};
 ghost use Rattle.cw_words.specs.Words.{limits_of, words_of};
 
@@ -38,15 +36,8 @@ pub struct Ran {
     pub ast: Ast,
 }
 
-// Returns the newest language in which a command reads its source.
-fn newest(command: &Command) -> u32
-    ensures { result ≡ newest_language command.now }
-{
-    match command {
-        Command::Sim { .. } | Command::Races { .. } => 2,
-        Command::Run { .. } | Command::Load { .. } | Command::Keep { .. } => 1,
-    }
-}
+// The newest language in which a command reads its source.
+const NEWEST: u32 = 2;
 
 /// Whether a command has more than one worker, and they are threads.
 pub fn has_several_threads(command: &Command) -> bool
@@ -71,7 +62,6 @@ fn run_on_threads<R: Threads + Wait + Sync, G: Gate>(
     gate: &G,
 ) -> Result<Record, OutOfMemory>
     requires compiled { IsCompiled program }
-    requires cancels { cancels program.code ≡ false }
     requires takes { TakesWords program (length words) }
     requires strands { 0 < limits.strands }
     ensures program { IfOk result (λ r. r.program ≡ program) }
@@ -84,7 +74,7 @@ fn run_on_threads<R: Threads + Wait + Sync, G: Gate>(
     run(rt, alloc, program, words, workers, limits, gate)
 }
 
-// Runs a program by one worker, who gives up blocks, too.
+// Runs a program by one worker.
 fn run_depth_first(
     alloc: Global,
     program: Program,
@@ -112,7 +102,6 @@ fn run_program<R: Threads + Wait + Sync, G: Gate>(
     gate: &G,
 ) -> Result<Record, OutOfMemory>
     requires compiled { IsCompiled program }
-    requires cancels { MayCancel command program }
     requires takes { TakesWords program (length (words_of command)) }
     requires ready { IsReady command }
     ensures program { IfOk result (λ r. r.program ≡ program) }
@@ -158,7 +147,6 @@ fn run_command<R: Threads + Wait + Sync, G: Gate>(
     gate: &G,
 ) -> Result<Record, OutOfMemory>
     requires compiled { IsCompiled program }
-    requires cancels { MayCancel command program }
     requires takes { TakesWords program (length (words_of command)) }
     requires ready { IsReady command }
     ensures program { IfOk result (λ r. r.program ≡ program) }
@@ -191,12 +179,11 @@ fn program_by<S: Source>(
     ensures source { IfOk result (λ c. IsItsSource command.now (S.left source.old) (source_of c.ast)) }
     ensures its { IfOk result (λ c. IsProgramOf (source_of c.ast).items c.program) }
     ensures compiled { IfOk result (λ c. IsCompiled c.program) }
-    ensures cancels { IfOk result (λ c. MayCancel command.now c.program) }
 {
     match command {
         Command::Load { transfers, .. } => Ok(compiled_load(alloc, *transfers)?),
         Command::Run { .. } | Command::Sim { .. } | Command::Keep { .. } | Command::Races { .. } =>
-            program_from(alloc, source, newest(command)),
+            program_from(alloc, source, NEWEST),
     }
 }
 

@@ -1,2 +1,3 @@
 mod Innermost
+mod Listing
 mod Victims

@@ -4,8 +4,10 @@ ghost use Rattle.cw_log.specs.Answers.{Meets, IsAround};
 ghost use Rattle.cw_log.specs.Tokens.{root_token};
 
 use crate::StrandToken;
+use crate::listed::listed;
 use crate::values::{Values, access_kind};
 use cw_base::{OutOfMemory, Seq};
+use cw_code::Back;
 use cw_log::{Access, Forked, Phase, SharedBoard};
 use cw_trace::Early;
 use cw_tree::{BlockState, Conflict, Halt, Kind, Node};
@@ -180,6 +182,15 @@ impl SharedBoard for Fickle {
         let value = self.values.access(rt, cell, write);
         token.make(access_kind(cell, write, value), self.stamp())?;
         Ok(Access::Value(value))
+    }
+
+    fn cancel<R: Wait>(&self, rt: &R, token: &mut StrandToken) -> Result<Seq<Back>, OutOfMemory> {
+        let _ = rt;
+        let alloc = self.alloc;
+        let back = listed(alloc, token.nodes.as_slice(), token.place, self.cells)?;
+        let kept = Seq::from_vec(Vec::from_slice(alloc, back.as_slice())?);
+        token.make(Kind::Cancel { back: kept }, self.stamp())?;
+        Ok(back)
     }
 
     fn fork<R: Wait>(

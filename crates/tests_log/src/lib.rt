@@ -7,6 +7,7 @@ mod conditions;
 mod crossing;
 mod fickle;
 mod kept;
+mod listed;
 mod one_list;
 mod token;
 mod values;

@@ -1,6 +1,6 @@
 //! A walk over a board's calls: it draws the next call from those whose conditions hold.
 ghost use Rattle.std.specs.Prelude.{◌≡◌, ◌<◌};
-ghost use Rattle.cw_log.specs.Tokens.{GoesFree};
+ghost use Rattle.cw_log.specs.Tokens.{GoesFree, HasBlock};
 
 use crate::{Fickle, Odds, StrandToken};
 use cw_base::OutOfMemory;
@@ -29,6 +29,7 @@ pub struct Counts {
     pub values: u64,
     pub refused: u64,
     pub rolled: u64,
+    pub cancelled: u64,
     pub inline: u64,
     pub two: u64,
     pub split: u64,
@@ -47,6 +48,7 @@ struct Seen {
     values: AtomicU64,
     refused: AtomicU64,
     rolled: AtomicU64,
+    cancelled: AtomicU64,
     inline: AtomicU64,
     two: AtomicU64,
     split: AtomicU64,
@@ -72,6 +74,7 @@ impl Seen {
             values: AtomicU64::new(0),
             refused: AtomicU64::new(0),
             rolled: AtomicU64::new(0),
+            cancelled: AtomicU64::new(0),
             inline: AtomicU64::new(0),
             two: AtomicU64::new(0),
             split: AtomicU64::new(0),
@@ -89,6 +92,7 @@ impl Seen {
             values: count(&self.values),
             refused: count(&self.refused),
             rolled: count(&self.rolled),
+            cancelled: count(&self.cancelled),
             inline: count(&self.inline),
             two: count(&self.two),
             split: count(&self.split),
@@ -145,7 +149,7 @@ impl<'a> Walk<'a> {
             self.board.roll(rt, token);
             one_more(&self.seen.rolled);
         } else if token.goes(BUDGET) {
-            match draws.below(6) {
+            match draws.below(7) {
                 0 => {
                     let _ = self.board.begin(token);
                 }
@@ -157,8 +161,22 @@ impl<'a> Walk<'a> {
                 2 => {
                     let _ = self.board.out(token, 7);
                 }
+                3 => {
+                    if token.has_block() {
+                        self.cancels(rt, token);
+                    }
+                }
                 _ => self.accesses(rt, token, draws),
             }
+        }
+    }
+
+    fn cancels<R: Wait>(&self, rt: &R, token: &mut StrandToken)
+        requires goes { GoesFree 100 token.old }
+        requires block { HasBlock token.old }
+    {
+        if self.board.cancel(rt, token).is_ok() {
+            one_more(&self.seen.cancelled);
         }
     }
 

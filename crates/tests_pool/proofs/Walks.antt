@@ -4,12 +4,18 @@ use Rattle.std.specs.Prelude.{All}
 use Rattle.cw_code.specs.declared.program.Program.{Program}
 use Rattle.cw_strand.specs.declared.want.Given.{Given}
 use Rattle.cw_strand.specs.Strands.{Strands}
-use Rattle.cw_job.specs.Room.Strands.{StrandState}
+use Rattle.cw_job.specs.Jobs.{bare_job}
+use Rattle.cw_job.specs.Room.Strands.{StrandState, strands_of_job}
 use Rattle.cw_body.specs.declared.stage.Stage.{Stage}
 use Rattle.cw_body.specs.declared.stage.Stage.TheVariants.{Goes, GaveUp}
 use Rattle.cw_body.specs.Bodies.{InBlocks, PendingBegin, HasNoBlock, answered, back_to, body_in_block, body_behind_block, forgot, joined_body, left_of, right_of, went_back}
 use Rattle.tests_pool.specs.Levels.{levels_at, AreUnder}
 use Rattle.tests_pool.proofs.Levels.{some_begin, one_less, right_strand, no_block, joined_strand, seen_back}
+
+-- its cells have as many elements as the code may name
+pub elements_there : (p : Program) → (strands_of_job (bare_job p)).elements ≡ p.code.cells
+unfolding strands_of_job
+elements_there p = refl
 
 -- how a strand of this level stands, with the levels of the begins around it
 pub record Stands (stage : Stage) (p : Program) (level : ℕ) (levels : List ℕ) (b : InBlocks) : Type 0 where

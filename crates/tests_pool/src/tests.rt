@@ -1,5 +1,4 @@
-ghost use Rattle.std.specs.Prelude.{◌≡◌, false, IfOk};
-ghost use Rattle.cw_code.specs.Programs.{cancels};
+ghost use Rattle.std.specs.Prelude.{IfOk};
 ghost use Rattle.cw_job.specs.Jobs.{TakesWords};
 ghost use Rattle.cw_strand.specs.Programs.{IsCompiled};
 
@@ -36,17 +35,12 @@ const fn columns(strands: u32) -> Limits {
 
 fn program(alloc: Global, text: &str) -> Result<Program, Fail>
     ensures compiled { IfOk result (λ p. IsCompiled p) }
-    ensures cancels { IfOk result (λ p. cancels p.code ≡ false) }
     ensures words { IfOk result (λ p. TakesWords p 0) }
 {
     let tree = read_program(alloc, text.as_bytes())?;
     let compiled = compile(alloc, &tree);
     drop(tree);
     let program = compiled?;
-    if program.cancels() {
-        drop(program);
-        return Err("a block is given up".into());
-    }
     if takes_words(&program, 0) {
         Ok(program)
     } else {
@@ -75,6 +69,12 @@ const UNDONE: &str =
 
 const FAULTY: &str =
     "cell c; cell d; fn main() { spawn { atomic { c = 1; c = 2; } } atomic { spawn { c = 3; } d = 1 / d; } }";
+
+const GIVEN_UP: &str =
+    "language 2; cell c = 5; cell d; fn main() { spawn { atomic { c = 9; d = 1; cancel; } } atomic { d = d + 1; atomic { c = 7; d = c; cancel; } } }";
+
+const GIVEN_UP_BENEATH: &str =
+    "language 2; cell a = 1; cell b = 2; fn main() { atomic { spawn { a = 7; } atomic { b = 8; cancel; } sync; cancel; } }";
 
 const COUNTS: &str =
     "cell c; fn main() { let i = 0; while i < 40 { spawn { atomic { c = c + 1; } } i = i + 1; } }";

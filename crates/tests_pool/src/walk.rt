@@ -234,15 +234,16 @@ impl<'a> Walk<'a> {
                 return Err(why);
             }
         };
-        let walker = match node.kind {
+        let walker = match &node.kind {
             Kind::Strand => {
                 drop(walker);
                 return Err(Why::Fork);
             }
             Kind::Fork => return self.forks(walker),
             Kind::Block => self.blocks(walker)?,
-            Kind::Tried { cell } => tries(walker, cell)?,
-            _ => walker.acts(&node.kind)?,
+            Kind::Tried { cell } => tries(walker, *cell)?,
+            Kind::Cancel { back } => walker.cancels(self.alloc, back.as_slice())?,
+            kind => walker.acts(kind)?,
         };
         self.next = next;
         Ok(Legs::Goes(walker))

@@ -2,21 +2,20 @@
 ghost use Rattle.std.specs.Prelude.{◌≡◌, ℕ, IfOk, IfSome, IsTrue, length, true};
 ghost use Rattle.cw_body.specs.declared.stage.Stage.TheVariants.{Goes, GaveUp};
 ghost use Rattle.cw_body.specs.Bodies.{AnswersAct, want_of};
-ghost use Rattle.cw_strand.specs.Strands.{is_over};
+ghost use Rattle.cw_strand.specs.Strands.{AreElements, is_over};
 ghost use Rattle.cw_job.specs.Jobs.{TakesWords};
 ghost use Rattle.tests_pool.specs.Levels.{AreUnder, levels_at};
 
 use crate::walk::Why;
-use cw_base::Stack;
+use cw_base::{Seq, Stack};
 use cw_body::Body;
-use cw_code::{Limits, Program};
+use cw_code::{Back, Limits, Program};
 use cw_strand::{Given, Want};
 use cw_tree::Kind;
 use std::alloc::Global;
 
 /// A strand that goes on: its body, the number of forks of which it is the right strand, and that number at the begin of each
 /// pending block around it, innermost first.
-/// innermost first.
 #[derive(Drop)]
 pub(crate) struct Walker<'a> {
     program: &'a Program,
@@ -107,6 +106,18 @@ fn given(want: Want, kind: &Kind) -> Option<Given>
     }
 }
 
+/// Whether each value goes back to one of so many elements.
+fn are_elements(elements: u32, back: &[Back]) -> bool
+    ensures { IsTrue result → AreElements elements back.now }
+{
+    for one in back {
+        if one.cell >= elements {
+            return false;
+        }
+    }
+    true
+}
+
 /// What is answered where a strand is walked no further.
 fn lost(body: Body, levels: Stack<u64>, why: Why) -> Why {
     drop(body);
@@ -160,6 +171,27 @@ impl<'a> Walker<'a> {
         };
         let program = walker.program;
         match walker.body.answer(given, program) {
+            Ok(()) => {}
+            Err(_) => return Err(lost(walker.body, walker.levels, Why::Memory)),
+        }
+        Ok(walker)
+    }
+
+    /// Goes on to put back what the list of a cancel tells.
+    pub(crate) fn cancels(self, alloc: Global, back: &[Back]) -> Result<Walker<'a>, Why> {
+        let mut walker = self;
+        let Want::Cancel = walker.body.want() else {
+            return Err(lost(walker.body, walker.levels, Why::Want));
+        };
+        let program = walker.program;
+        if !are_elements(program.code.code().cells, back) {
+            return Err(lost(walker.body, walker.levels, Why::Want));
+        }
+        let list = match Vec::from_slice(alloc, back) {
+            Ok(list) => Seq::from_vec(list),
+            Err(_) => return Err(lost(walker.body, walker.levels, Why::Memory)),
+        };
+        match walker.body.answer(Given::Back(list), program) {
             Ok(()) => {}
             Err(_) => return Err(lost(walker.body, walker.levels, Why::Memory)),
         }

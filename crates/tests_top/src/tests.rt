@@ -10,6 +10,7 @@ use std::thread::Threads;
 mod checking;
 mod loads;
 mod outside;
+mod racing;
 mod simulating;
 mod threads;
 

@@ -140,7 +140,7 @@ none_some : {A : Type 0} → (x : A) → None ≡ Some x → ⊥
 none_some x e = cc
 
 module _ (job : Job) where
-  place_in_block : (x : Token) (a : Start) (t : Trail StrandState) (js : Course) → Fits x a t js → (blocks_in (strands_of_job job) t ≡ 0 → ⊥) → HasBlock x
+  pub place_in_block : (x : Token) (a : Start) (t : Trail StrandState) (js : Course) → Fits x a t js → (blocks_in (strands_of_job job) t ≡ 0 → ⊥) → HasBlock x
   place_in_block x a (in_block t cs c stamp) js w some e = in_some_block t cs c stamp (sym w.place ∙ e ∙ w.strand)
   place_in_block x a opens js w some e = absurd (some refl)
   place_in_block x a (in_left t cs c column stamp) js w some e = absurd (some refl)

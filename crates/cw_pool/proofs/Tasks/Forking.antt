@@ -14,7 +14,7 @@ use Rattle.cw_log.specs.declared.token.Open.{Open}
 use Rattle.cw_log.specs.declared.token.Side.{Side}
 use Rattle.cw_log.specs.declared.token.Side.TheVariants.{Beside, First}
 use Rattle.cw_log.specs.declared.token.Token.{Token}
-use Rattle.cw_log.specs.Tokens.{Fells, branched, forked, halted, inside, right_of, with_nodes}
+use Rattle.cw_log.specs.Tokens.{Fells, branched, forked, gone_in, halted, right_of, with_nodes}
 use Rattle.cw_course.specs.Courses.{Course, nothing}
 use Rattle.cw_course.specs.Trails.{Trail, opens, in_left, nodes_of, place_of, strand_in, strands_with}
 use Rattle.cw_course.proofs.Trails.Moves as move
@@ -38,7 +38,7 @@ use Rattle.cw_pool.proofs.Tasks.Acting.{going}
 -- the token in the left strand of a fork with these strands in its log
 abbrev pub forked_with : Token → Side → (column : Option ℕ) → (stamp : ℕ) → Token
 forked_with x side column stamp =
-    let n = length x.own.nodes in inside (with_nodes x (x.own.nodes ++ fresh_node x.place Fork stamp ∷ strands_with column n)) side (n + 1)
+    let n = length x.own.nodes in gone_in (with_nodes x (x.own.nodes ++ fresh_node x.place Fork stamp ∷ strands_with column n)) side (n + 1)
 
 fits_forked : (x : Token) (a : Start) (t : Trail StrandState) (cs : Course) (b : StrandState) (side : Side) (column : Option ℕ) (stamp : ℕ) → Fits x a t cs
     → Fits (forked_with x side column stamp) a (in_left t cs b column stamp) nothing

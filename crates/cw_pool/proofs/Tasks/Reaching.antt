@@ -7,9 +7,9 @@ use Rattle.cw_strand.specs.declared.want.Given.TheVariants.{Nothing}
 use Rattle.cw_strand.specs.Strands.{Strands, IsAnswer, MayWant, own_after, is_over, GoesTo, stays, answered, Reached, of_main, of_left, of_right}
 use Rattle.cw_job.specs.Jobs.{Job}
 use Rattle.cw_job.specs.Room.Strands.{StrandState, strands_of_job}
-use Rattle.cw_job.proofs.Room.Elements.{NamesThere, wants_there}
 use Rattle.cw_job.proofs.Room.Lawful.{closes_of}
 use Rattle.cw_strand.specs.Names.{first_memory}
+use Rattle.cw_record.proofs.OneWorker.AccessesThere.{AccessThere, accesses_there}
 use Rattle.cw_course.specs.Courses.{Course, Goes}
 use Rattle.cw_course.specs.Trails.{Trail, opens, in_block, in_left, in_right, state_at_entry, Leads, Stands}
 use Rattle.cw_course.proofs.Courses.Reaching.{further, goes_to}
@@ -67,8 +67,8 @@ module _ (job : Job) (run : IsRun job) where
   may_want : (t : Trail StrandState) (now : StrandState) → ReachedAt s t now → (outer : List ℕ) × MayWant (s.want now) (blocks_in s t ∷ outer)
   may_want t now (outer, r) = (outer, closes_of job run.compiled run.takes (blocks_in s t ∷ outer) now r)
 
-  pub names_there : (t : Trail StrandState) (now : StrandState) → ReachedAt s t now → NamesThere (length (first_memory job.program.cells)) (s.want now)
-  names_there t now (outer, r) = wants_there job run.compiled run.cancels (blocks_in s t ∷ outer) now r
+  pub names_there : (t : Trail StrandState) (now : StrandState) → ReachedAt s t now → AccessThere (length (first_memory job.program.cells)) (s.want now)
+  names_there t now (outer, r) = accesses_there job run.compiled (blocks_in s t ∷ outer) now r
 
   none_ends : (outer : List ℕ) → MayWant want.End (0 ∷ outer) → ⊥
   none_ends outer h = h
@@ -83,6 +83,15 @@ module _ (job : Job) (run : IsRun job) where
   end_in_block t now r e z =
       let (outer, may) = may_want t now r in
       none_ends outer (subst (λ (n : ℕ). MayWant want.End (n ∷ outer)) z (subst (λ (w : Want). MayWant w (blocks_in s t ∷ outer)) e may))
+
+  none_cancels : (outer : List ℕ) → MayWant want.Cancel (0 ∷ outer) → ⊥
+  none_cancels outer h = h
+
+  -- so has one that gives up a block
+  pub cancel_in_block : (t : Trail StrandState) (now : StrandState) → ReachedAt s t now → s.want now ≡ want.Cancel → blocks_in s t ≡ 0 → ⊥
+  cancel_in_block t now r e z =
+      let (outer, may) = may_want t now r in
+      none_cancels outer (subst (λ (n : ℕ). MayWant want.Cancel (n ∷ outer)) z (subst (λ (w : Want). MayWant w (blocks_in s t ∷ outer)) e may))
 
   pub over_in_none : (t : Trail StrandState) (now : StrandState) → ReachedAt s t now → IsTrue (is_over (s.want now)) → (n : ℕ) → blocks_in s t ≡ suc n → ⊥
   over_in_none t now r o n e =

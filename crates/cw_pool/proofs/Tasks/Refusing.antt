@@ -31,7 +31,7 @@ use Rattle.cw_pool.proofs.Tasks.Going.{rebuilt, base_dies, fits_made}
 use Rattle.cw_pool.proofs.Tasks.Stopping.{is_halted, budget_no_fault}
 use Rattle.cw_pool.proofs.Tasks.Acting.{going, acts, acts_last}
 use Rattle.cw_pool.proofs.Tasks.Reaching.{names_there, reached_now}
-use Rattle.cw_job.proofs.Room.Elements.{NamesThere}
+use Rattle.cw_record.proofs.OneWorker.AccessesThere.{AccessThere}
 use Rattle.cw_strand.specs.Names.{first_memory}
 
 -- a conflict is no part of a course
@@ -107,7 +107,7 @@ module _ (job : Job) where
         (All-weaker (λ c. Fells x c → ⊥) (λ c. Fells x c → to ≤ c.victim) (λ c h f. absurd (h f)) (conflicts_in (logs x)) s.free.none) (λ f. omega (arith, v));
   }
 
-cell_named : (n cell : ℕ) (write : Option ℤ) → NamesThere n (access_want cell write) → cell < n
+cell_named : (n cell : ℕ) (write : Option ℤ) → AccessThere n (access_want cell write) → cell < n
 cell_named n cell None h = h
 cell_named n cell (Some v) h = h
 
@@ -125,18 +125,8 @@ module _ {T J : Type 0} (job : Job) (of : T → Token) where
       let s = r.stands in
       let here : (strands_of_job job).want s.now ≡ access_want cell write = sym (ap (λ (w : InBlocks). (strands_of_job job).want w.state) s.there) ∙ e in
       cell_named (length (first_memory job.program.cells)) cell write
-      (subst (λ (w : Want). NamesThere (length (first_memory job.program.cells)) w) here
+      (subst (λ (w : Want). AccessThere (length (first_memory job.program.cells)) w) here
       (names_there job r.run r.trail s.now (reached_now (strands_of_job job) r.start.state r.trail r.course s.now r.reached s.stands)))
-
-  -- a strand that goes on gives up no block
-  pub gives_up_none : (x : Token) (how : Mode) (body : InBlocks) (bs : List (Below T J)) (b : Base T J) → how ≡ mode.Goes → IsRunning job of x body how bs b
-      → (strands_of_job job).want body.state ≡ want.Cancel → ⊥
-  gives_up_none x how body bs b is r0 e =
-      let r = going job of is r0 in
-      let s = r.stands in
-      let here : (strands_of_job job).want s.now ≡ want.Cancel = sym (ap (λ (w : InBlocks). (strands_of_job job).want w.state) s.there) ∙ e in
-      subst (λ (w : Want). NamesThere (length (first_memory job.program.cells)) w) here
-      (names_there job r.run r.trail s.now (reached_now (strands_of_job job) r.start.state r.trail r.course s.now r.reached s.stands))
 
   -- the victim of a refused access is a block around it, or 0
   pub victim_there : (x z : Token) (how : Mode) (body : InBlocks) (bs : List (Below T J)) (b : Base T J) (k : Conflict) → IsRunning job of x body how bs b → IsAround x k.victim → z ≡ refused x k → MayFell z k

@@ -121,6 +121,7 @@ module _ (key : Key) (s : State Slot View) (h : Holds key s) (id : ℕ) (v : Vie
       (λ i. turns_access i (record { strand = v.column; stamp = next }) wrote x v.turns) (used_access (cells_of key) h.used (record { strand = v.column; stamp = next }) wrote x v.turns (h.tiers.held id v at))
       refl refl refl refl refl refl refl
   rule_of (draw.Out x) n b can = plain_rule (drew_view (draw.Out x) n b next v) (omega (arith, some_room)) refl (λ i. refl) (h.tiers.held id v at) refl refl refl refl refl refl refl
+  rule_of (draw.Cancel back) n b can = plain_rule (drew_view (draw.Cancel back) n b next v) (omega (arith, some_room)) refl (λ i. refl) (h.tiers.held id v at) refl refl refl refl refl refl refl
   rule_of draw.Begin n b can = plain_rule (drew_view draw.Begin n b next v) (omega (arith, some_room)) refl (λ i. refl) (h.tiers.held id v at) refl refl refl refl refl refl refl
   rule_of (draw.End aborted) n b can = plain_rule (drew_view (draw.End aborted) n b next v) (omega (arith, some_room)) refl (λ i. refl) (h.tiers.held id v at) refl refl refl refl refl refl refl
 

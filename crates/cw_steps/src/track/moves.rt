@@ -242,19 +242,20 @@ impl Track {
         *second = false;
     }
 
-    fn draw_settled(&mut self, what: &Draw, number: u64)
+    fn draw_settled(&mut self, what: Draw, number: u64)
         requires settled { track_of self.old ≡ settled (track_of self.old) }
-        requires ready { IsReady self.old (added what.now) }
-        ensures track { track_of self.new ≡ drawn what.now number (track_of self.old) }
-        ensures ready { (n : ℕ) → IsReady self.old (added what.now + n) → IsReady self.new n }
+        requires ready { IsReady self.old (added what) }
+        ensures track { track_of self.new ≡ drawn what number (track_of self.old) }
+        ensures ready { (n : ℕ) → IsReady self.old (added what + n) → IsReady self.new n }
         ensures kept { (self.new.spare ≡ self.old.spare) × (self.new.room ≡ self.old.room) }
     {
-        match *what {
+        match what {
             Draw::Access { cell, wrote, value } => self.add(
                 access_kind(cell, wrote, value),
                 number,
             ),
             Draw::Out { value } => self.add(Kind::Out { value }, number),
+            Draw::Cancel { back } => self.add(Kind::Cancel { back }, number),
             Draw::Begin => self.begin(number),
             Draw::End { aborted: true } => self.close(BlockState::Aborted, number),
             Draw::End { aborted: false } => self.close(BlockState::Committed, number),
@@ -263,10 +264,10 @@ impl Track {
     }
 
     /// Adds what a draw shows, with the number that was drawn.
-    pub(crate) fn draw(&mut self, what: &Draw, number: u64)
-        requires { IsReady self.old (added what.now) }
-        ensures track { track_of self.new ≡ drawn what.now number (track_of self.old) }
-        ensures ready { (n : ℕ) → IsReady self.old (added what.now + n) → IsReady self.new n }
+    pub(crate) fn draw(&mut self, what: Draw, number: u64)
+        requires { IsReady self.old (added what) }
+        ensures track { track_of self.new ≡ drawn what number (track_of self.old) }
+        ensures ready { (n : ℕ) → IsReady self.old (added what + n) → IsReady self.new n }
         ensures kept { (self.new.spare ≡ self.old.spare) × (self.new.room ≡ self.old.room) }
     {
         self.settle();

@@ -1,11 +1,9 @@
-ghost use Rattle.std.specs.Prelude.{◌≡◌, false};
-ghost use Rattle.cw_code.specs.Programs.{cancels};
 ghost use Rattle.cw_job.specs.Jobs.{TakesWords};
 ghost use Rattle.cw_strand.specs.Programs.{IsCompiled};
 
 use super::{
-    ALONE, BEFORE, COUNTS, FAULTY, INSIDE, LEFTWARDS, LOST, NESTED, OUTER, RIGHTWARDS, TREES,
-    UNDONE, WIDE, columns, program, up_to,
+    ALONE, BEFORE, COUNTS, FAULTY, GIVEN_UP, GIVEN_UP_BENEATH, INSIDE, LEFTWARDS, LOST, NESTED,
+    OUTER, RIGHTWARDS, TREES, UNDONE, WIDE, columns, program, up_to,
 };
 use crate::walk::{Told, walked};
 use cw_code::{Limits, Program};
@@ -79,7 +77,6 @@ fn worked<R: Threads + Wait + Sync>(
     seed: u64,
 ) -> Result<StrandToken, Fail>
     requires compiled { IsCompiled program.now }
-    requires cancels { cancels program.now.code ≡ false }
     requires words { TakesWords program.now 0 }
 {
     let memory = first_memory(alloc, program.cells.as_slice())?;
@@ -135,7 +132,6 @@ fn ended<R: Threads + Wait + Sync>(
     seed: u64,
 ) -> Result<Ending, Fail>
     requires compiled { IsCompiled program.now }
-    requires cancels { cancels program.now.code ≡ false }
     requires words { TakesWords program.now 0 }
 {
     let token = worked(rt, alloc, program, trial, workers, seed)?;
@@ -153,7 +149,6 @@ fn all_seeds<R: Threads + Wait + Sync>(
     seeds: u64,
 ) -> Result<(), Fail>
     requires compiled { IsCompiled program.now }
-    requires cancels { cancels program.now.code ≡ false }
     requires words { TakesWords program.now 0 }
 {
     let (one, other) = trial.ends;
@@ -197,6 +192,8 @@ fn worked_programs<R: Threads + Wait + Sync>(
         row(INSIDE, WIDE, ODDS, WHOLE),
         row(UNDONE, WIDE, ODDS, WHOLE),
         row(FAULTY, WIDE, ODDS, (Ending::Fault, Ending::Fault)),
+        row(GIVEN_UP, WIDE, ODDS, WHOLE),
+        row(GIVEN_UP_BENEATH, WIDE, ODDS, WHOLE),
         row(COUNTS, WIDE, ODDS, WHOLE),
         row(TREES, WIDE, ODDS, WHOLE),
     ];

@@ -36,17 +36,16 @@ fn a_refused_access_is_kept(rt: HostRuntime) -> Result<(), Fail> {
     Ok(())
 }
 
-// A simulation gives up blocks. Running threads give up none, so no other command reads such a source.
+// A block that is given up: its writes go back, its outputs stay.
 const GIVEN_UP: &[u8] =
     b"language 2; cell c = 5; fn main() { atomic { c = 9; out c; cancel; out 1; } out c; }";
 
 #[test]
-fn only_a_simulation_gives_up_blocks(rt: HostRuntime) -> Result<(), Fail> {
-    let whole = b"out 9\nout 5\nc = 5\nend\n".as_slice();
-    for (command, status, text) in [("sim", 0, whole), ("run", 5, b"")] {
+fn a_block_is_given_up_in_turns_and_on_threads(rt: HostRuntime) -> Result<(), Fail> {
+    for command in ["sim", "run"] {
         let (said, told) = ran(&rt, &[command], GIVEN_UP)?;
-        assert_eq!(rt; said, status, "{command}");
-        assert_eq!(rt; told.as_slice(), text, "{command}");
+        assert_eq!(rt; said, 0, "{command}");
+        assert_eq!(rt; told.as_slice(), b"out 9\nout 5\nc = 5\nend\n".as_slice(), "{command}");
     }
     Ok(())
 }

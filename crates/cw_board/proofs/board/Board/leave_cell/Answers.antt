@@ -1,4 +1,4 @@
-use Rattle.std.proofs.Common.{sym, subst}
+use Rattle.std.proofs.Common.{◌∙◌, refl, sym, subst}
 use Rattle.cw_steps.specs.Homes.{CellComesHome}
 use Rattle.cw_steps.specs.Views.{newest_aim, newest_cell, IsLowCell}
 use Rattle.cw_steps.specs.declared.view.View.{View}
@@ -28,3 +28,6 @@ returns-clause-of c =
     let e = c.give.ensures in
     let now = holds_other b c.args.cell h.1 (slot.Cell c.args.held) h.0 u v h.2 o.table o.view o.slots o.track o.token in
     given_is b c.args.cell (slot.Cell c.args.held) h.0 v c.give.new.token home.Plain now e.table e.view e.slots e.kept.1 e.token tt (cell_gap b c.args.cell (slot.Cell c.args.held) h.0 v now)
+
+pub returns-clause-track : goal.returns-clause-track
+returns-clause-track c = c.give.ensures.plain refl ∙ c.swap_cell.ensures.track

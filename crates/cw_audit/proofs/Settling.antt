@@ -1,0 +1,4 @@
+pub mod Levels
+pub mod Following
+pub mod Choosing
+pub mod Theorem
