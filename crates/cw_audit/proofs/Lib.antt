@@ -15,6 +15,11 @@ pub mod Sweeping
 pub mod Coming
 pub mod Remembered
 pub mod Rolling
+pub mod Outermost
+pub mod Finding
+pub mod Elders
+pub mod Ends
+pub mod Recording
 pub mod Together
 pub mod Backs
 pub mod Settling

@@ -6,6 +6,10 @@ pub mod TwoBlocks
 pub mod Latest
 pub mod Stamps
 pub mod Spans
+pub mod Stamped
+pub mod Apart
+pub mod Repeats
+pub mod Told
 pub mod LiveAccesses
 pub mod Ended
 pub mod Later

@@ -17,6 +17,8 @@ ghost use Rattle.cw_audit.specs.TwoBlocks.{EndedByTwo};
 ghost use Rattle.cw_audit.specs.Worked.{BrokenSheets, SoundSheets};
 
 mod accesses;
+mod apart;
+mod attempts;
 mod blocks;
 mod by_cell;
 mod cancels;
@@ -27,11 +29,14 @@ mod latest;
 mod limits;
 mod outputs;
 mod program;
+mod recorded;
 mod refused;
 mod series;
 mod spans;
+mod stamped;
 mod stamps;
 mod strands;
+mod told;
 mod victims;
 mod words;
 
