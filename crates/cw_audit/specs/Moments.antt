@@ -61,6 +61,6 @@ pub record AreBesides (t : List Node) (firsts : List (Option ℕ)) : Type 0 wher
   pub each : (n : ℕ) → 0 < n → n < length t → HoldsUnder (PredatesBeside t n) (slice_index_or firsts n None)
 
 -- for each node the least stamp after it in series, if there is one
-pub record AreFirsts (t : List Node) (firsts : List (Option ℕ)) : Type 0 where
+pub record AreFirstStamps (t : List Node) (firsts : List (Option ℕ)) : Type 0 where
   pub len : length firsts ≡ length t
   pub each : (n : ℕ) → n < length t → HoldsUnder (PredatesAfter t n) (slice_index_or firsts n None)

@@ -1,6 +1,6 @@
 ghost use Rattle.std.specs.Prelude.{◌↔◌, ℕ, ◌-◌, ◌<◌, IfOk, length};
 ghost use Rattle.cw_tree.specs.Nodes.{parent_of};
-ghost use Rattle.cw_audit.specs.Moments.{AreBesides, AreFirsts, HoldsUnder, IsUnder, PredatesBeneath, PredatesBeside, PredatesPast, PredatesWithin};
+ghost use Rattle.cw_audit.specs.Moments.{AreBesides, AreFirstStamps, HoldsUnder, IsUnder, PredatesBeneath, PredatesBeside, PredatesPast, PredatesWithin};
 
 use cw_base::OutOfMemory;
 use cw_tree::Tree;
@@ -8,7 +8,7 @@ use std::alloc::Global;
 
 /// For each node, returns the least stamp after it in series, if there is one. Takes two passes over the nodes.
 pub(crate) fn firsts(alloc: Global, tree: &Tree) -> Result<Vec<Option<u64>>, OutOfMemory>
-    ensures { IfOk result (λ v. AreFirsts tree.now v.items) }
+    ensures { IfOk result (λ v. AreFirstStamps tree.now v.items) }
 {
     let mut firsts = firsts_beside(alloc, tree)?;
     // what is after the parent of a node is after the node too

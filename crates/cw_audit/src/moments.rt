@@ -1,5 +1,5 @@
 ghost use Rattle.std.specs.Prelude.{◌↔◌, ◌<◌, IsTrue, length};
-ghost use Rattle.cw_audit.specs.Moments.{AreFirsts, AreFloors, HasMoment, IsUnder};
+ghost use Rattle.cw_audit.specs.Moments.{AreFirstStamps, AreFloors, HasMoment, IsUnder};
 
 use cw_tree::{Conflict, Tree};
 
@@ -15,7 +15,7 @@ pub(crate) fn has_moment(
     requires asker { conflict.now.asker < length tree.now }
     requires block { block < length tree.now }
     requires floors { AreFloors tree.now floors.now }
-    requires firsts { AreFirsts tree.now firsts.now }
+    requires firsts { AreFirstStamps tree.now firsts.now }
     ensures { IsTrue result ↔ HasMoment tree.now conflict.now block }
 {
     let asker = conflict.asker as usize;
