@@ -42,7 +42,7 @@ fn firsts_beside(alloc: Global, tree: &Tree) -> Result<Vec<Option<u64>>, OutOfMe
     Ok(firsts)
 }
 
-/// Returns the least stamp in the later children of the parent of node `n`, if it has its children in series.
+/// Returns the least stamp in the later children of the parent of node `n`, or none if these are in parallel.
 fn first_beside(tree: &Tree, n: u32, later: Option<u64>) -> Option<u64>
     requires there { n < length tree.now }
     requires child { 0 < n }
@@ -56,7 +56,7 @@ fn first_beside(tree: &Tree, n: u32, later: Option<u64>) -> Option<u64>
     }
 }
 
-/// Returns the least stamp of node `n` and of what is beneath it.
+/// Returns the least stamp of node `n` and of what is beneath it, if there is one.
 fn first_within(tree: &Tree, n: u32, beneath: Option<u64>) -> Option<u64>
     requires there { n < length tree.now }
     requires beneath { HoldsUnder (PredatesBeneath tree.now n) beneath }
