@@ -6,6 +6,8 @@ pub mod OneAnswer
 pub mod OverSource
 pub mod TwoBlocks
 pub mod Rising
+pub mod Timing
+pub mod Following
 pub mod Spanning
 pub mod Making
 pub mod Taking

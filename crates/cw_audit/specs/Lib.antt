@@ -4,6 +4,7 @@ pub mod Audits
 pub mod Laws
 pub mod TwoBlocks
 pub mod Latest
+pub mod Moments
 pub mod Stamps
 pub mod Spans
 pub mod Stamped
