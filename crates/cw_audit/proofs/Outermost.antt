@@ -1,14 +1,16 @@
 -- The outermost of the nodes above one that passes a test, as a walk up finds it, and where two nodes part.
-use Rattle.std.proofs.Common.{◌≡◌, ℕ, ◌<◌, ◌≤◌, List, [], ◌∷◌, length, refl, ap, sym, ◌∙◌, arith, Bool, true, false, cond, Option, Some, None}
+use Rattle.std.proofs.Common.{◌≡◌, ◌≢◌, ℕ, ◌<◌, ◌≤◌, List, [], ◌∷◌, length, refl, ap, sym, ◌∙◌, arith, Bool, true, false, cond, Option, Some, None}
 use Rattle.std.specs.Prelude.{◌&&◌, not}
 use Rattle.std.specs.Option.{option_or}
+use Rattle.std.proofs.lemmas.Bool.{and_from, and_left, and_right}
 use Rattle.cw_tree.specs.declared.node.Node.{Node}
-use Rattle.cw_tree.specs.Nodes.{parent_of, is_fork}
-use Rattle.cw_tree.specs.Walks.{IsRooted, above, outermost, lca, is_ancestor}
+use Rattle.cw_tree.specs.Nodes.{parent_of, is_block, is_fork}
+use Rattle.cw_tree.specs.Walks.{IsRooted, above, outermost, lca, is_ancestor, is_above}
 use Rattle.cw_tree.specs.Series.{parallel}
-use Rattle.cw_tree.proofs.Walks.Climbs.{above_step}
-use Rattle.cw_tree.proofs.Walks.Ancestors.{ancestor_le}
+use Rattle.cw_tree.proofs.Walks.Climbs.{above_step, by_parent}
+use Rattle.cw_tree.proofs.Walks.Ancestors.{above_ancestor, ancestor_above, ancestor_le, ancestor_self, ancestor_trans, ancestor_up}
 use Rattle.cw_tree.proofs.Walks.Meets.{lca_is_meet}
+use Rattle.cw_audit.specs.Apart.{is_apart}
 
 pub or_none : (o : Option ℕ) → option_or o None ≡ o
 or_none None = refl
@@ -31,6 +33,16 @@ outermost_passes p (n ∷ ns) b e = by (outermost p ns) (p n) refl (outermost_pa
   by None true g more h = let same : n ≡ b = cc h in sym (ap p same) ∙ g
   by None false g more h = absurd (cc h)
 
+-- a block that is not above u, and a node that is
+pub own_block : (t : List Node) (u n : ℕ) → is_block t n ≡ true → is_above t n u ≡ false → is_apart t u n ≡ true
+own_block t u n e f = and_from (is_block t n) (not (is_above t n u)) e (ap not f)
+
+pub no_block : (t : List Node) (u n : ℕ) → is_block t n ≡ false → is_apart t u n ≡ false
+no_block t u n e = and_left (is_block t n) (not (is_above t n u)) e
+
+shared : (t : List Node) (u n : ℕ) → is_above t n u ≡ true → is_apart t u n ≡ false
+shared t u n f = and_right (is_block t n) (not (is_above t n u)) (ap not f)
+
 module _ (t : List Node) (r : IsRooted t) where
   outermost_step : (p : ℕ → Bool) (n q : ℕ) (o : Option ℕ) → q ≡ parent_of t n → 0 < n → n < length t → option_or (outermost p (above t q)) (cond (p q) (Some q) o) ≡ option_or (outermost p (above t n)) o
   outermost_step p n q o e s h =
@@ -49,6 +61,27 @@ module _ (t : List Node) (r : IsRooted t) where
 
   pub lca_there : (a b : ℕ) → a < length t → b < length t → lca t a b < length t
   lca_there a b ha hb = let le : lca t a b ≤ a = ancestor_le t r (lca t a b) a ha (lca_is_meet t r a b ha hb).left in omega arith
+
+  -- what is above an ancestor of u is above u
+  none_apart : (u : ℕ) → u < length t → (n : ℕ) → n < length t → is_ancestor t n u ≡ true → outermost (is_apart t u) (above t n) ≡ None
+  none_apart u hu =
+      by_parent t r (λ n. is_ancestor t n u ≡ true → outermost (is_apart t u) (above t n) ≡ None) (λ e. refl)
+      (λ n s h more e.
+      let q = parent_of t n in
+      let low : q < n = r n s h in
+      let le : n ≤ u = ancestor_le t r n u hu e in
+      let up : is_ancestor t q u ≡ true = ancestor_trans t r q n u hu (ancestor_up t r q n s h (ancestor_self t q)) e in
+      let ne : u ≢ q = omega arith in
+      let fails : is_apart t u q ≡ false = shared t u q (sym (ancestor_above t q u ne) ∙ up) in
+      ap (outermost (is_apart t u)) (above_step t r n s h)
+      ∙ ap (λ o. option_or o (cond (is_apart t u q) (Some q) None)) (more up)
+      ∙ ap (λ b. cond b (Some q) None) fails)
+
+  -- a walk that comes to what is above u ends
+  pub walk_ends : (u n q : ℕ) (o : Option ℕ) → u < length t → q ≡ parent_of t n → 0 < n → n < length t → is_above t q u ≡ true → o ≡ option_or (outermost (is_apart t u) (above t n)) o
+  walk_ends u n q o hu e s h f =
+      let there : q < length t = (let low : parent_of t n < n = r n s h in omega arith) in
+      sym (ap (λ x. option_or x o) (none_apart u hu q there (above_ancestor t q u f))) ∙ walk_passes (is_apart t u) n q o e s h (shared t u q f)
 
 -- ## Two nodes that part at a fork
 

@@ -2,7 +2,6 @@ ghost use Rattle.std.specs.Prelude.{◌≡◌, ◌<◌, length};
 ghost use Rattle.cw_tree.specs.Nodes.{touches, tries};
 ghost use Rattle.cw_tree.specs.Refusals.{outermost_apart};
 ghost use Rattle.cw_tree.specs.Series.{parallel};
-ghost use Rattle.cw_audit.specs.Apart.{is_apart};
 ghost use Rattle.cw_audit.specs.Spans.{AreSpans};
 
 use crate::spans::Spans;
@@ -38,7 +37,7 @@ fn tries_there(tree: &Tree, cell: u32, n: u32) -> bool
     }
 }
 
-/// Returns whether two nodes part at a fork. Takes as many steps as they are deep.
+/// Returns whether two nodes part at a fork. Takes as many steps as it is from both to where they part.
 pub(crate) fn parallel(tree: &Tree, spans: &Spans, a: u32, b: u32) -> bool
     requires a { a < length tree.now }
     requires b { b < length tree.now }
@@ -53,7 +52,7 @@ pub(crate) fn parallel(tree: &Tree, spans: &Spans, a: u32, b: u32) -> bool
     tree.is_fork(tree.lca(a, b))
 }
 
-/// Returns the outermost block above node `v` that is not above node `u`. Takes as many steps as `v` is deep.
+/// Returns the outermost block above node `v` that is not above node `u`. Takes as many steps as it is from `v` to where the two part.
 pub(crate) fn outermost_apart(tree: &Tree, spans: &Spans, u: u32, v: u32) -> Option<u32>
     requires u { u < length tree.now }
     requires v { v < length tree.now }
@@ -64,19 +63,13 @@ pub(crate) fn outermost_apart(tree: &Tree, spans: &Spans, u: u32, v: u32) -> Opt
     let mut at = v;
     while at > 0 {
         at = tree.parent(at);
-        if is_apart(tree, spans, u, at) {
+        // what is above this is above `u` too
+        if spans.is_above(tree, at, u) {
+            return found;
+        }
+        if tree.is_block(at) {
             found = Some(at);
         }
     }
     found
-}
-
-/// Returns whether node `n` is a block that is not above node `u`.
-fn is_apart(tree: &Tree, spans: &Spans, u: u32, n: u32) -> bool
-    requires u { u < length tree.now }
-    requires n { n < length tree.now }
-    requires spans { AreSpans tree.now spans.now.first.items spans.now.last.items }
-    ensures { result ≡ is_apart tree.now u n }
-{
-    tree.is_block(n) && !spans.is_above(tree, n, u)
 }
