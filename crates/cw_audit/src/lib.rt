@@ -4,8 +4,9 @@
 //! Contracts cite `specs/Audits.antt` (what an audit answers), over `specs/Parts.antt` (the parts) and `specs/Journals.antt` (the
 //! journals that a tree tells), and `specs/Laws.antt` (what the parts say together). `specs/TwoBlocks.antt` and `Together` are short
 //! ways to parts 3 and 7. `specs/Settled.antt` tells from the tree alone whether strands can have done what it tells.
-//! `specs/Worked.antt` tries it all on examples. `Stamps`, `Latest`, `LiveAccesses`, `Spans`, `Ended`, `Later`, `Victims`, `Backs`,
-//! `Visits`, `Visiting` and `Walkers` have what is computed on the way to deciding parts.
+//! `specs/Worked.antt` tries it all on examples. `Stamps`, `Latest`, `LiveAccesses`, `Spans`, `Ended`, `Later`, `Victims`, `Stamped`,
+//! `Apart`, `Repeats`, `Told`, `Moments`, `Backs`, `Visits`, `Visiting` and `Walkers` have what is computed on the way to deciding
+//! parts.
 #![tactic(auto)]
 
 ghost use Rattle.cw_job.specs.Jobs.{Job};
@@ -17,21 +18,28 @@ ghost use Rattle.cw_audit.specs.TwoBlocks.{EndedByTwo};
 ghost use Rattle.cw_audit.specs.Worked.{BrokenSheets, SoundSheets};
 
 mod accesses;
+mod apart;
+mod attempts;
 mod blocks;
 mod by_cell;
 mod cancels;
 mod ending;
 mod findings;
+mod firsts;
 mod kinds;
 mod latest;
 mod limits;
+mod moments;
 mod outputs;
 mod program;
+mod recorded;
 mod refused;
 mod series;
 mod spans;
+mod stamped;
 mod stamps;
 mod strands;
+mod told;
 mod victims;
 mod words;
 
