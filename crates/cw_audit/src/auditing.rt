@@ -60,9 +60,9 @@ pub fn audit(alloc: Global, sheet: &Sheet) -> Result<Audit, OutOfMemory>
     requires { HasText (contents_of sheet.now) }
     ensures { IfOk result (IsAudit (contents_of sheet.now)) }
 {
-    let ground = Groundwork::of_sheet(alloc, sheet)?;
+    let work = Groundwork::of_sheet(alloc, sheet)?;
     for part in 1..9 {
-        if !part_holds(alloc, sheet, &ground, part)? {
+        if !part_holds(alloc, sheet, &work, part)? {
             return Ok(Audit::Broken { part });
         }
     }
@@ -73,27 +73,27 @@ pub fn audit(alloc: Global, sheet: &Sheet) -> Result<Audit, OutOfMemory>
 fn part_holds(
     alloc: Global,
     sheet: &Sheet,
-    ground: &Groundwork,
+    work: &Groundwork,
     part: u8,
 ) -> Result<bool, OutOfMemory>
     requires text { HasText (contents_of sheet.now) }
-    requires ground { IsGroundwork (contents_of sheet.now) ground.now }
+    requires work { IsGroundwork (contents_of sheet.now) work.now }
     requires first { 1 ≤ part }
     requires last { part ≤ 8 }
     requires before { HoldBefore (contents_of sheet.now) part }
     ensures { IfOk result (λ b. (p : Part) → part_number p ≡ part → IsTrue b ↔ PartHolds (contents_of sheet.now) p) }
 {
     let tree = &sheet.tree;
-    let lives = ground.lives.as_slice();
-    let accesses = ground.accesses.as_slice();
-    let first = ground.first.as_slice();
+    let lives = work.lives.as_slice();
+    let accesses = work.accesses.as_slice();
+    let first = work.first.as_slice();
     match part {
         1 => stamps_hold(alloc, tree),
-        2 => Ok(ground.fit),
+        2 => Ok(work.fit),
         3 => blocks_hold(alloc, tree, accesses, first.len()),
         4 => refusals_hold(alloc, sheet, lives),
-        5 => strands_hold(alloc, sheet, &ground.program, lives),
-        6 => end_holds(alloc, sheet, &ground.program, lives, ground.left.as_slice()),
+        5 => strands_hold(alloc, sheet, &work.program, lives),
+        6 => end_holds(alloc, sheet, &work.program, lives, work.left.as_slice()),
         7 => cancels_hold(alloc, tree, lives, accesses, first),
         _ => order_holds(alloc, sheet),
     }

@@ -12,7 +12,7 @@ use Rattle.cw_audit.proofs.auditing.part_holds.Goals as goal
 pub blocks_hold-requires-clause-cells : goal.blocks_hold-requires-clause-cells
 blocks_hold-requires-clause-cells c =
     let sheet = c.args.sheet.now in
-    let first : first_values (contents_of sheet) ≡ c.as_slice-first.result.now = sym (c.as_slice-first.ensures.value ∙ c.requires.ground.first) in
+    let first : first_values (contents_of sheet) ≡ c.as_slice-first.result.now = sym (c.as_slice-first.ensures.value ∙ c.requires.work.first) in
     let cells : FitsCells sheet.tree (length (first_values (contents_of sheet))) = (c.requires.before accesses (omega (arith, c.in-3.is))).cells in
     subst (FitsCells sheet.tree) (ap length first) cells
 
@@ -29,8 +29,8 @@ pub end_holds-requires-clause-left : goal.end_holds-requires-clause-left
 end_holds-requires-clause-left c =
     let sheet = c.args.sheet.now in
     let P : List ℤ → Type 0 = λ m. IsMemory sheet.tree (first_values (contents_of sheet)) m in
-    let fit = c.requires.ground.fit.1 (c.requires.before accesses (omega (arith, c.in-6.is))) in
-    subst P (sym c.as_slice.ensures.value) (c.requires.ground.left fit)
+    let fit = c.requires.work.fit.1 (c.requires.before accesses (omega (arith, c.in-6.is))) in
+    subst P (sym c.as_slice.ensures.value) (c.requires.work.left fit)
 
 pub end_holds-requires-clause-strands : goal.end_holds-requires-clause-strands
 end_holds-requires-clause-strands c = c.requires.before strands (omega (arith, c.in-6.is))
@@ -38,7 +38,7 @@ end_holds-requires-clause-strands c = c.requires.before strands (omega (arith, c
 pub cancels_hold-requires-clause-cells : goal.cancels_hold-requires-clause-cells
 cancels_hold-requires-clause-cells c =
     let sheet = c.args.sheet.now in
-    let first : first_values (contents_of sheet) ≡ c.as_slice-first.result.now = sym (c.as_slice-first.ensures.value ∙ c.requires.ground.first) in
+    let first : first_values (contents_of sheet) ≡ c.as_slice-first.result.now = sym (c.as_slice-first.ensures.value ∙ c.requires.work.first) in
     let cells : FitsCells sheet.tree (length (first_values (contents_of sheet))) = (c.requires.before accesses (omega (arith, c.in-7.is))).cells in
     subst (FitsCells sheet.tree) (ap length first) cells
 
@@ -57,7 +57,7 @@ pub returns-in-7 : goal.returns-in-7
 returns-in-7 c =
     let sheet = c.args.sheet.now in
     let P : List ℤ → Type 0 = λ first. IfOk c.cancels_hold.result (λ b. IsTrue b ↔ AreCancels sheet.tree first) in
-    by_number (contents_of sheet) c.args.part cancels (sym c.in-7.is) c.cancels_hold.result (subst P (c.as_slice-first.ensures.value ∙ c.requires.ground.first) c.cancels_hold.ensures)
+    by_number (contents_of sheet) c.args.part cancels (sym c.in-7.is) c.cancels_hold.result (subst P (c.as_slice-first.ensures.value ∙ c.requires.work.first) c.cancels_hold.ensures)
 
 pub returns-in_default : goal.returns-in_default
 returns-in_default c =
