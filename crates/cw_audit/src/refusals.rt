@@ -1,15 +1,14 @@
-ghost use Rattle.std.specs.Prelude.{◌≡◌, ◌↔◌, All, IfOk, IsTrue, map};
+ghost use Rattle.std.specs.Prelude.{◌≡◌, ◌↔◌, IfOk, IsTrue, map};
 ghost use Rattle.cw_tree.specs.Accesses.{is_live};
 ghost use Rattle.cw_tree.specs.Nodes.{all_nodes};
-ghost use Rattle.cw_tree.specs.Refusals.{IsRecorded};
 ghost use Rattle.cw_tree.specs.Shape.{AreStamps};
 ghost use Rattle.cw_audit.specs.Parts.{RefusalsHold};
 
+use crate::recorded::are_recorded;
 use crate::refused::{askers_are_refused, victims_fit};
 use crate::spent::spent_holds;
 use cw_base::OutOfMemory;
 use cw_sheet::Sheet;
-use cw_tree::{Conflict, Tree};
 use std::alloc::Global;
 
 /// Decides part 4, once part 1 holds: whether refused accesses, conflicts and rolled-back blocks fit together, and a budget was spent.
@@ -33,17 +32,5 @@ pub(crate) fn refusals_hold(
     if !spent_holds(tree, conflicts, sheet.limits.aborts, lives, &sheet.end)? {
         return Ok(false);
     }
-    placeholder_are_recorded(alloc, tree, conflicts)
-}
-
-/// PLACEHOLDER: to be replaced by `are_recorded`.
-fn placeholder_are_recorded(
-    _alloc: Global,
-    _tree: &Tree,
-    _conflicts: &[Conflict],
-) -> Result<bool, OutOfMemory>
-    requires { AreStamps _tree.now }
-    ensures { IfOk result (λ b. IsTrue b ↔ All (IsRecorded _tree.now) _conflicts.now) }
-{
-    unreachable!()
+    are_recorded(alloc, tree, conflicts)
 }

@@ -32,7 +32,7 @@ returns c =
     let each = c.in_ok-askers_are_refused.ensures.0 c.if-not-branch.false in
     let fit = c.in_ok-victims_fit.ensures.0 c.if-not-branch-2.false in
     let spent = c.in_ok-spent_holds.ensures.0 c.if-not-branch-3.false in
-    let P : List Conflict → Type 0 = λ ks. IfOk c.placeholder_are_recorded.result (λ b. IsTrue b ↔ RefusalsHold t ks budget sheet.end) in
+    let P : List Conflict → Type 0 = λ ks. IfOk c.are_recorded.result (λ b. IsTrue b ↔ RefusalsHold t ks budget sheet.end) in
     subst P c.as_slice-conflicts.ensures (
-    IfOk-weaker c.placeholder_are_recorded.result (λ b. IsTrue b ↔ All (IsRecorded t) cs) (λ b. IsTrue b ↔ RefusalsHold t cs budget sheet.end)
-    (whole t cs budget sheet.end each fit spent) c.placeholder_are_recorded.ensures)
+    IfOk-weaker c.are_recorded.result (λ b. IsTrue b ↔ All (IsRecorded t) cs) (λ b. IsTrue b ↔ RefusalsHold t cs budget sheet.end)
+    (whole t cs budget sheet.end each fit spent) c.are_recorded.ensures)
