@@ -29,4 +29,5 @@ pub mod Going
 pub mod Stepping
 pub mod Slots
 pub mod Deciding
+pub mod PartByPart
 mod Worked

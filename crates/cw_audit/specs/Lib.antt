@@ -21,4 +21,5 @@ pub mod Visiting
 pub mod Walkers
 pub mod Together
 pub mod Backs
+pub mod Groundwork
 pub mod Worked
