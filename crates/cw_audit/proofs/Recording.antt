@@ -12,10 +12,10 @@ use Rattle.cw_tree.proofs.NodeKinds.{access_stamped, block_stamped}
 use Rattle.cw_tree.proofs.Walks.There.{node_there}
 use Rattle.cw_audit.specs.Moments.{HasMoment}
 use Rattle.cw_audit.specs.Stamped.{HasStamp}
-use Rattle.cw_audit.specs.Told.{IsTold}
+use Rattle.cw_audit.specs.Told.{TellsRightly}
 
 module _ (t : List Node) (c : Conflict) where
-  told_of : (u b : ℕ) → IsRefusal t c u b → IsTold t c u b
+  told_of : (u b : ℕ) → IsRefusal t c u b → TellsRightly t c u b
   told_of u b w = record {
     met = record { last = w.last; asker = w.asker; parallel = w.parallel; block = w.block };
     victim = record { victim = w.victim; attempt = w.attempt };
@@ -25,7 +25,7 @@ module _ (t : List Node) (c : Conflict) where
   moment_of : (u b : ℕ) → IsRefusal t c u b → HasMoment t c b
   moment_of u b w = record { before_after_block = w.before_after_block; begun_after_block = w.begun_after_block; last_after_asker = w.last_after_asker }
 
-  pub recorded_from : (u b : ℕ) → IsTold t c u b → HasMoment t c b → IsRecorded t c
+  pub recorded_from : (u b : ℕ) → TellsRightly t c u b → HasMoment t c b → IsRecorded t c
   recorded_from u b w m = (
     u,
     b,
@@ -72,7 +72,7 @@ module _ (t : List Node) (c : Conflict) where
         let Q : ℕ → Type 0 = λ m. IsRefusal t c w.0 m in
         subst P (same_node c.last w.0 u (last_stamp w.0 w.1 w.2) v) (subst Q (same_node c.block w.1 b (block_stamp w.0 w.1 w.2) z) w.2)
 
-    pub recorded_told : IsRecorded t c → (u b : ℕ) → HasStamp t c.last u → HasStamp t c.block b → IsTold t c u b
+    pub recorded_told : IsRecorded t c → (u b : ℕ) → HasStamp t c.last u → HasStamp t c.block b → TellsRightly t c u b
     recorded_told w u b v z = told_of u b (refused_at w u b v z)
 
     pub recorded_moment : IsRecorded t c → (u b : ℕ) → HasStamp t c.last u → HasStamp t c.block b → HasMoment t c b

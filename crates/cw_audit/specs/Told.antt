@@ -42,7 +42,7 @@ pub record IsChainTold (t : List Node) (c : Conflict) : Type 0 where
   pub last : (xs : List ℕ) × (c.chain ≡ xs ++ c.last ∷ [])
 
 -- all of it, of access u and block b
-pub record IsTold (t : List Node) (c : Conflict) (u b : ℕ) : Type 0 where
+pub record TellsRightly (t : List Node) (c : Conflict) (u b : ℕ) : Type 0 where
   pub met : AreMet t c u b
   pub victim : IsVictimTold t c u
   pub chain : IsChainTold t c

@@ -8,7 +8,7 @@ ghost use Rattle.cw_tree.specs.Walks.{is_above};
 ghost use Rattle.cw_audit.specs.Repeats.{AreAttempts};
 ghost use Rattle.cw_audit.specs.Spans.{AreSpans};
 ghost use Rattle.cw_audit.specs.Stamped.{AreByStamp, IsNodeAt};
-ghost use Rattle.cw_audit.specs.Told.{AreMet, AreTables, IsBlockTold, IsChainTold, IsLastTold, IsTold, IsVictimTold};
+ghost use Rattle.cw_audit.specs.Told.{AreMet, AreTables, IsBlockTold, IsChainTold, IsLastTold, TellsRightly, IsVictimTold};
 
 use crate::apart::{outermost_apart, parallel, touches, tries};
 use crate::attempts::attempts;
@@ -62,7 +62,7 @@ pub(crate) fn is_told(
     requires block { block < length tree.now }
     requires tables { AreTables tree.now tables.now }
     requires stamps { AreStamps tree.now }
-    ensures { IsTrue result ↔ IsTold tree.now conflict.now access block }
+    ensures { IsTrue result ↔ TellsRightly tree.now conflict.now access block }
 {
     if !are_met(tree, &tables.spans, conflict, access, block) {
         return false;
