@@ -64,7 +64,12 @@ fn stop_in_place(alloc: Global, sheet: &Sheet) -> Result<bool, OutOfMemory>
     if !pending_is_last(alloc, &sheet.tree, laters.as_slice())? {
         return Ok(false);
     }
-    rolls_back(alloc, &sheet.tree, sheet.conflicts.as_slice(), laters.as_slice())
+    rolls_back(
+        alloc,
+        &sheet.tree,
+        sheet.conflicts.as_slice(),
+        laters.as_slice(),
+    )
 }
 
 /// Returns the end, without what a run that finished says of itself.
@@ -116,5 +121,11 @@ pub(crate) fn order_holds(alloc: Global, sheet: &Sheet) -> Result<bool, OutOfMem
     ensures { IfOk result (λ b. IsTrue b ↔ PartHolds (contents_of sheet.now) order) }
 {
     let conflicts = sheet.conflicts.as_slice();
-    has_outputs(alloc, &sheet.tree, conflicts, sheet.limits.aborts, &sheet.end)
+    has_outputs(
+        alloc,
+        &sheet.tree,
+        conflicts,
+        sheet.limits.aborts,
+        &sheet.end,
+    )
 }
