@@ -162,6 +162,7 @@ sweep_all() {
 
   printf 'language 2; cell c = 5; cell d; fn main() { atomic { spawn { d = 7; } c = 9; out c; cancel; out 1; } out c; }' > source
   sweep 'a block that is given up, simulated' 0 0 $'out 9\nout 5\nc = 5\nd = 0\nend\n' '' sim --workers 2
+  sweep 'a block that is given up, 2 workers' 1 0 $'out 9\nout 5\nc = 5\nd = 0\nend\n' '' run --workers 2
 
   sweep 'a load, 4 workers' 3 0 $'transfers 20\nsum 64000\nend\n' '' load 20
 

@@ -422,7 +422,9 @@ printf 'language 2; cell a = 1; cell b = 2; fn main() { atomic { spawn { a = 7; 
 try 'report 2 of one worker' 0 $'a = 1\nb = 2\nend\nreport 2\nstrands 3\nblocks 2 0 cancelled 1\nconflicts 0\nend report\n' '' run --workers 1 --report 2
 try 'report 1 of one worker' 0 $'a = 1\nb = 2\nend\nreport 1\nstrands 3\nblocks 2 0\nconflicts 0\nend report\n' '' run --workers 1 --report 1
 # accesses beside each other inside one block never conflict, so the whole text is the same on each schedule
-try 'report 2 of four workers' 0 $'a = 1\nb = 2\nend\nreport 2\nstrands 3\nblocks 2 0 cancelled 1\nconflicts 0\nend report\n' '' run --workers 4 --report 2
+for workers in 2 3 4 8 16; do
+  try "report 2 of $workers workers" 0 $'a = 1\nb = 2\nend\nreport 2\nstrands 3\nblocks 2 0 cancelled 1\nconflicts 0\nend report\n' '' run --workers $workers --report 2
+done
 given_up 'language 2; cell c; fn main() { let i = 0; while i < 100 { spawn { atomic { c = c + 1; cancel; } } i = i + 1; } }' 0 \
   'c = 0/end/report 2/strands 201/blocks 100 0 cancelled 100' run --workers 1
 given_up 'language 2; cell a[4] = 100; fn t(i, j, x, k) { atomic { a[i] = a[i] - x; a[j] = a[j] + x; if k { cancel; } } } fn main() { let i = 0; while i < 200 { spawn { t(i % 4, (i + 1) % 4, i, i % 3 == 0); } i = i + 1; } sync; out a[0] + a[1] + a[2] + a[3]; }' 0 \

@@ -6,6 +6,8 @@ pub mod OneAnswer
 pub mod OverSource
 pub mod TwoBlocks
 pub mod Rising
+pub mod Timing
+pub mod Following
 pub mod Spanning
 pub mod Making
 pub mod Taking
@@ -15,6 +17,11 @@ pub mod Sweeping
 pub mod Coming
 pub mod Remembered
 pub mod Rolling
+pub mod Outermost
+pub mod Finding
+pub mod Elders
+pub mod Ends
+pub mod Recording
 pub mod Together
 pub mod Backs
 pub mod Settling
@@ -22,4 +29,5 @@ pub mod Going
 pub mod Stepping
 pub mod Slots
 pub mod Deciding
+pub mod PartByPart
 mod Worked

@@ -4,8 +4,13 @@ pub mod Audits
 pub mod Laws
 pub mod TwoBlocks
 pub mod Latest
+pub mod Moments
 pub mod Stamps
 pub mod Spans
+pub mod Stamped
+pub mod Apart
+pub mod Repeats
+pub mod Told
 pub mod LiveAccesses
 pub mod Ended
 pub mod Later
@@ -16,4 +21,5 @@ pub mod Visiting
 pub mod Walkers
 pub mod Together
 pub mod Backs
+pub mod Groundwork
 pub mod Worked

@@ -1,6 +1,7 @@
 ghost use Rattle.std.specs.Prelude.{◌≡◌, ◌↔◌, ℕ, ◌+◌, ◌<◌, IfOk, IsTrue, length, slice_index};
 ghost use Rattle.cw_tree.specs.Nodes.{parent_of};
 ghost use Rattle.cw_audit.specs.Latest.{ComesLate, EndsLast, IsLeast, TopsBefore, TopsBehind, TopsBeneath, TopsWithin};
+ghost use Rattle.cw_audit.specs.Moments.{AreFloors};
 
 use crate::kinds::is_closed;
 use cw_base::OutOfMemory;
@@ -41,20 +42,35 @@ pub(crate) fn stamps_rise(alloc: Global, tree: &Tree, latest: &[u64]) -> Result<
     requires latest { (n : ℕ) → n < length tree.now → IsLeast (TopsBeneath tree.now n) (slice_index latest.now n) }
     ensures { IfOk result (λ b. IsTrue b ↔ ((m : ℕ) → m < length tree.now → ComesLate tree.now m)) }
 {
-    let count = tree.nodes().len();
-    // for each node what its next child has to exceed
-    let mut floors = vec![in alloc; 0u64; count]?;
-    for n in 1..count as u32 {
-        let parent = tree.parent(n);
-        let floor = floors[parent as usize];
-        if !comes_late(tree, n, floor) {
+    let floors = floors(alloc, tree, latest)?;
+    for n in 0..tree.nodes().len() as u32 {
+        if !comes_late(tree, n, floors[n as usize]) {
             return Ok(false);
         }
-        floors[n as usize] = floor_inside(tree, n, floor);
-        let within = latest_within(tree, n, latest[n as usize]);
-        floors[parent as usize] = floor_behind(tree, n, floor, within);
     }
     Ok(true)
+}
+
+/// For each node, returns what its stamp has to exceed: the greatest stamp or end before it in series, or begin of a block above it.
+/// Takes one pass over the nodes.
+pub(crate) fn floors(alloc: Global, tree: &Tree, latest: &[u64]) -> Result<Vec<u64>, OutOfMemory>
+    requires len { length latest.now ≡ length tree.now }
+    requires latest { (n : ℕ) → n < length tree.now → IsLeast (TopsBeneath tree.now n) (slice_index latest.now n) }
+    ensures { IfOk result (λ v. AreFloors tree.now v.items) }
+{
+    let count = tree.nodes().len();
+    let mut floors = vec![in alloc; 0u64; count]?;
+    // for each node what its next child has to exceed
+    let mut behind = vec![in alloc; 0u64; count]?;
+    for n in 1..count as u32 {
+        let parent = tree.parent(n);
+        let floor = behind[parent as usize];
+        floors[n as usize] = floor;
+        behind[n as usize] = floor_inside(tree, n, floor);
+        let within = latest_within(tree, n, latest[n as usize]);
+        behind[parent as usize] = floor_behind(tree, n, floor, within);
+    }
+    Ok(floors)
 }
 
 /// Returns whether the stamp of node `n`, if it has one, exceeds what is before it.

@@ -1,11 +1,12 @@
-//! Audits of record sheets: whether all that a sheet says fits together. Definitions and laws, and inside the crate what decides some
-//! of the parts; no call audits yet.
-//! Use the laws to conclude from its parts that a sheet tells a coherent run, or from a coherent record that its sheet is sound.
+//! Audits of record sheets: whether all that a sheet says fits together.
+//! Use `audit` to find out whether to believe a sheet, and which part of it is the first that does not hold. Use the laws to conclude
+//! from its parts that a sheet tells a coherent run, or from a coherent record that its sheet is sound.
 //! Contracts cite `specs/Audits.antt` (what an audit answers), over `specs/Parts.antt` (the parts) and `specs/Journals.antt` (the
 //! journals that a tree tells), and `specs/Laws.antt` (what the parts say together). `specs/TwoBlocks.antt` and `Together` are short
 //! ways to parts 3 and 7. `specs/Settled.antt` tells from the tree alone whether strands can have done what it tells.
-//! `specs/Worked.antt` tries it all on examples. `Stamps`, `Latest`, `LiveAccesses`, `Spans`, `Ended`, `Later`, `Victims`, `Backs`,
-//! `Visits`, `Visiting` and `Walkers` have what is computed on the way to deciding parts.
+//! `specs/Worked.antt` tries it all on examples. `Groundwork`, `Stamps`, `Latest`, `LiveAccesses`, `Spans`, `Ended`, `Later`, `Victims`,
+//! `Stamped`, `Apart`, `Repeats`, `Told`, `Moments`, `Backs`, `Visits`, `Visiting` and `Walkers` have what is computed on the way to an
+//! answer.
 #![tactic(auto)]
 
 ghost use Rattle.cw_job.specs.Jobs.{Job};
@@ -17,24 +18,36 @@ ghost use Rattle.cw_audit.specs.TwoBlocks.{EndedByTwo};
 ghost use Rattle.cw_audit.specs.Worked.{BrokenSheets, SoundSheets};
 
 mod accesses;
+mod apart;
+mod attempts;
+mod auditing;
 mod blocks;
 mod by_cell;
 mod cancels;
 mod ending;
 mod findings;
+mod firsts;
 mod kinds;
 mod latest;
 mod limits;
+mod moments;
 mod outputs;
+mod parts;
 mod program;
+mod recorded;
+mod refusals;
 mod refused;
 mod series;
 mod spans;
+mod spent;
+mod stamped;
 mod stamps;
 mod strands;
+mod told;
 mod victims;
 mod words;
 
+pub use auditing::audit;
 pub use findings::Audit;
 
 /// Law: parts 1 to 7 of a sheet hold exactly if the sheet tells a coherent run of its program, with words and limits as they may

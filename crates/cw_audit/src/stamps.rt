@@ -84,7 +84,7 @@ fn times(alloc: Global, tree: &Tree) -> Result<Vec<u64>, OutOfMemory>
 }
 
 /// Returns whether each number is less than the next.
-fn rises(numbers: &[u64]) -> bool
+pub(crate) fn rises(numbers: &[u64]) -> bool
     ensures { IsTrue result ↔ IsStrictlyIncreasing numbers.now }
 {
     for i in 1..numbers.len() {

@@ -1,5 +1,5 @@
 -- The pass from the first node up, which finds what each stamp has to exceed.
-use Rattle.std.proofs.Common.{◌≡◌, ◌≢◌, ℕ, ◌+◌, ◌-◌, ◌<◌, ◌≤◌, List, length, get_or, set, replicate, refl, ap, sym, ◌∙◌, subst, arith, true, false, inl, inr}
+use Rattle.std.proofs.Common.{◌≡◌, ◌≢◌, ℕ, ◌+◌, ◌<◌, ◌≤◌, List, length, get_or, set, replicate, refl, ap, sym, ◌∙◌, subst, arith, true, false, inl, inr}
 use Rattle.std.specs.Prelude.{◌⊎◌, max}
 use Rattle.std.proofs.lemmas.Bool.{cases_eq, and_parts, and_from}
 use Rattle.std.proofs.lemmas.List.{get_or-set_same, get_or-set_other, get_or-replicate, length-set, length-replicate}
@@ -11,15 +11,16 @@ use Rattle.cw_tree.proofs.NodeKinds.{strand_no_block}
 use Rattle.cw_tree.proofs.Walks.Ancestors.{ancestor_self, ancestor_root, ancestor_above, above_ancestor, above_parent, ancestor_up}
 use Rattle.cw_tree.proofs.Walks.Upward.{ancestor_cases}
 use Rattle.cw_tree.proofs.Walks.Kin.{InSeries, of_before, before_of}
-use Rattle.cw_audit.specs.Latest.{IsLeast, TopsWithin, TopsBefore, TopsBehind, ComesLate}
+use Rattle.cw_audit.specs.Latest.{IsLeast, TopsWithin, TopsBefore, TopsBehind}
 use Rattle.cw_audit.proofs.Rising.Least.{least_same, least_none, least_number, least_both}
 
--- each node below n has what its next child has to exceed, and their own stamps exceed what is before them
-pub record FloorsUp (t : List Node) (n : ℕ) (floors : List ℕ) : Type 0 where
+-- each node below n has what it has to exceed, and what its next child has to
+pub record FloorsUp (t : List Node) (n : ℕ) (floors behind : List ℕ) : Type 0 where
   pub some : 0 < n
   pub len : length floors ≡ length t
-  pub each : (x : ℕ) → x < n → x < length t → IsLeast (TopsBehind t n x) (get_or floors x 0)
-  pub late : (m : ℕ) → m < n → m < length t → ComesLate t m
+  pub behind_len : length behind ≡ length t
+  pub own : (x : ℕ) → x < n → x < length t → IsLeast (TopsBefore t x) (get_or floors x 0)
+  pub each : (x : ℕ) → x < n → x < length t → IsLeast (TopsBehind t n x) (get_or behind x 0)
 
 -- nothing is before the root
 root_first : (t : List Node) (v : ℕ) → TopsBefore t 0 v
@@ -33,25 +34,28 @@ root_first t v = record {
   begun = λ b there e. (let z = (and_parts (is_block t b) (is_above t b 0) e).1 in absurd (cc z));
 }
 
-pub up_start : (t : List Node) (k : ℕ) (floors : List ℕ) → is_strand t 0 ≡ true → k ≡ length t → floors ≡ replicate k 0 → FloorsUp t 1 floors
-up_start t k floors strand e q = record {
+pub up_start : (t : List Node) (k : ℕ) (floors behind : List ℕ) → is_strand t 0 ≡ true → k ≡ length t → floors ≡ replicate k 0 → behind ≡ replicate k 0 → FloorsUp t 1 floors behind
+up_start t k floors behind strand e p q = record {
   some = omega arith;
-  len = ap length q ∙ length-replicate k 0 ∙ e;
+  len = ap length p ∙ length-replicate k 0 ∙ e;
+  behind_len = ap length q ∙ length-replicate k 0 ∙ e;
+  own = λ x low there. (
+      let root : x ≡ 0 = omega arith in
+      let P : ℕ → Type 0 = λ j. IsLeast (TopsBefore t x) j in
+      let Q : ℕ → Type 0 = λ y. IsLeast (TopsBefore t y) 0 in
+      subst P (sym (zero_at floors x p there)) (subst Q (sym root) (least_none (TopsBefore t 0) (root_first t))));
   each = λ x low there. (
       let root : x ≡ 0 = omega arith in
-      let zero_is : get_or floors x 0 ≡ 0 = ap (λ xs. get_or xs x 0) q ∙ get_or-replicate k x 0 0 (omega arith) in
       let P : ℕ → Type 0 = λ j. IsLeast (TopsBehind t 1 x) j in
       let Q : ℕ → Type 0 = λ y. IsLeast (TopsBehind t 1 y) 0 in
-      subst P (sym zero_is) (subst Q (sym root) (least_none (TopsBehind t 1 0) (λ v. record {
+      subst P (sym (zero_at behind x q there)) (subst Q (sym root) (least_none (TopsBehind t 1 0) (λ v. record {
         before = root_first t v;
         block = λ b. absurd (cc (b, strand_no_block t 0 strand));
         children = λ c s l in_tree up free. absurd (omega arith);
       }))));
-  late = λ m low there pos. (
-      let root : m ≡ 0 = omega arith in
-      let P : ℕ → Type 0 = λ y. TopsBefore t y (stamp_of t m - 1) in
-      subst P (sym root) (root_first t _));
-}
+} where
+  zero_at : (xs : List ℕ) (x : ℕ) → xs ≡ replicate k 0 → x < length t → get_or xs x 0 ≡ 0
+  zero_at xs x q there = ap (λ ys. get_or ys x 0) q ∙ get_or-replicate k x 0 0 (omega arith)
 
 module _ (t : List Node) (r : IsRooted t) (n : ℕ) (some : 0 < n) (there : n < length t) where
   -- the parent
@@ -111,23 +115,17 @@ module _ (t : List Node) (r : IsRooted t) (n : ℕ) (some : 0 < n) (there : n < 
         }));
   }
 
-  pub before_least : (floors : List ℕ) (f q : ℕ) → FloorsUp t n floors → q ≡ p → f ≡ get_or floors q f → IsLeast (TopsBefore t n) f
-  before_least floors f q w up read =
+  pub behind_least : (floors behind : List ℕ) (f q : ℕ) → FloorsUp t n floors behind → q ≡ p → f ≡ get_or behind q f → IsLeast (TopsBehind t n p) f
+  behind_least floors behind f q w up read =
       let low : p < n = r n some there in
-      let len = w.len in
-      let is : f ≡ get_or floors q 0 = read ∙ get_or_default_zero floors q f (omega arith) in
-      let P : ℕ → Type 0 = λ j. IsLeast (TopsBefore t n) j in
-      let Q : ℕ → Type 0 = λ x. IsLeast (TopsBehind t n p) (get_or floors x 0) in
-      subst P (sym is) (least_same (TopsBehind t n p) (TopsBefore t n) (get_or floors q 0) behind_to_before before_to_behind (subst Q (sym up) (w.each p low (omega arith))))
-
-  pub behind_least : (floors : List ℕ) (f q : ℕ) → FloorsUp t n floors → q ≡ p → f ≡ get_or floors q f → IsLeast (TopsBehind t n p) f
-  behind_least floors f q w up read =
-      let low : p < n = r n some there in
-      let len = w.len in
-      let is : f ≡ get_or floors q 0 = read ∙ get_or_default_zero floors q f (omega arith) in
+      let len = w.behind_len in
+      let is : f ≡ get_or behind q 0 = read ∙ get_or_default_zero behind q f (omega arith) in
       let P : ℕ → Type 0 = λ j. IsLeast (TopsBehind t n p) j in
-      let Q : ℕ → Type 0 = λ x. IsLeast (TopsBehind t n p) (get_or floors x 0) in
+      let Q : ℕ → Type 0 = λ x. IsLeast (TopsBehind t n p) (get_or behind x 0) in
       subst P (sym is) (subst Q (sym up) (w.each p low (omega arith)))
+
+  pub before_least : (floors behind : List ℕ) (f q : ℕ) → FloorsUp t n floors behind → q ≡ p → f ≡ get_or behind q f → IsLeast (TopsBefore t n) f
+  before_least floors behind f q w up read = least_same (TopsBehind t n p) (TopsBefore t n) f behind_to_before before_to_behind (behind_least floors behind f q w up read)
 
   -- ## Inside the node
 
@@ -181,36 +179,44 @@ module _ (t : List Node) (r : IsRooted t) (n : ℕ) (some : 0 < n) (there : n < 
         child v h c d l in_tree up free (inl e) = absurd (other (sym up ∙ ap (parent_of t) e))
         child v h c d l in_tree up free (inr ne) = h.children c d (omega arith) in_tree up free
 
-  pub up_step : (floors : List ℕ) (q inside behind : ℕ) → FloorsUp t n floors → q ≡ p → ComesLate t n → IsLeast (TopsBehind t (n + 1) n) inside → IsLeast (TopsBehind t (n + 1) p) behind
-      → FloorsUp t (n + 1) (set (set floors n inside) q behind)
-  up_step floors q inside behind w up late own next = record {
+  pub up_step : (floors behind : List ℕ) (q f inside next : ℕ) → FloorsUp t n floors behind → q ≡ p → IsLeast (TopsBefore t n) f → IsLeast (TopsBehind t (n + 1) n) inside → IsLeast (TopsBehind t (n + 1) p) next
+      → FloorsUp t (n + 1) (set floors n f) (set (set behind n inside) q next)
+  up_step floors behind q f inside next w up here in_here past = record {
     some = omega arith;
-    len = length-set (set floors n inside) q behind ∙ length-set floors n inside ∙ w.len;
+    len = length-set floors n f ∙ w.len;
+    behind_len = length-set (set behind n inside) q next ∙ length-set behind n inside ∙ w.behind_len;
+    own = λ x l h. own_at x l h (cases_eq x n);
     each = λ x l h. each_at x l h (cases_eq x q) (cases_eq x n);
-    late = λ m l h. late_at m l h (cases_eq m n);
   } where
-    late_at : (m : ℕ) → m < n + 1 → m < length t → (m ≡ n) ⊎ (m ≡ n → ⊥) → ComesLate t m
-    late_at m l h (inl e) = let P : ℕ → Type 0 = λ x. ComesLate t x in subst P (sym e) late
-    late_at m l h (inr ne) = w.late m (omega arith) h
-
-    each_at : (x : ℕ) → x < n + 1 → x < length t → (x ≡ q) ⊎ (x ≡ q → ⊥) → (x ≡ n) ⊎ (x ≡ n → ⊥) → IsLeast (TopsBehind t (n + 1) x) (get_or (set (set floors n inside) q behind) x 0)
-    each_at x l h (inl e) b =
+    own_at : (x : ℕ) → x < n + 1 → x < length t → (x ≡ n) ⊎ (x ≡ n → ⊥) → IsLeast (TopsBefore t x) (get_or (set floors n f) x 0)
+    own_at x l h (inl e) =
         let len = w.len in
+        let value : get_or (set floors n f) n 0 ≡ f = get_or-set_same floors n f 0 (omega arith) in
+        let P : ℕ → Type 0 = λ y. IsLeast (TopsBefore t y) (get_or (set floors n f) y 0) in
+        let Q : ℕ → Type 0 = λ j. IsLeast (TopsBefore t n) j in
+        subst P (sym e) (subst Q (sym value) here)
+    own_at x l h (inr ne) =
+        let Q : ℕ → Type 0 = λ j. IsLeast (TopsBefore t x) j in
+        subst Q (sym (get_or-set_other floors n x f 0 ne)) (w.own x (omega arith) h)
+
+    each_at : (x : ℕ) → x < n + 1 → x < length t → (x ≡ q) ⊎ (x ≡ q → ⊥) → (x ≡ n) ⊎ (x ≡ n → ⊥) → IsLeast (TopsBehind t (n + 1) x) (get_or (set (set behind n inside) q next) x 0)
+    each_at x l h (inl e) b =
+        let len = w.behind_len in
         let low : p < n = r n some there in
         let is : x ≡ p = e ∙ up in
-        let value : get_or (set (set floors n inside) q behind) q 0 ≡ behind = get_or-set_same (set floors n inside) q behind 0 (omega (arith, length-set floors n inside)) in
-        let P : ℕ → Type 0 = λ y. IsLeast (TopsBehind t (n + 1) y) behind in
+        let value : get_or (set (set behind n inside) q next) q 0 ≡ next = get_or-set_same (set behind n inside) q next 0 (omega (arith, length-set behind n inside)) in
+        let P : ℕ → Type 0 = λ y. IsLeast (TopsBehind t (n + 1) y) next in
         let Q : ℕ → Type 0 = λ j. IsLeast (TopsBehind t (n + 1) x) j in
-        subst Q (sym (ap (λ y. get_or (set (set floors n inside) q behind) y 0) e ∙ value)) (subst P (sym is) next)
+        subst Q (sym (ap (λ y. get_or (set (set behind n inside) q next) y 0) e ∙ value)) (subst P (sym is) past)
     each_at x l h (inr a) (inl e) =
-        let len = w.len in
-        let value : get_or (set (set floors n inside) q behind) x 0 ≡ inside =
-        get_or-set_other (set floors n inside) q x behind 0 a ∙ ap (λ y. get_or (set floors n inside) y 0) e ∙ get_or-set_same floors n inside 0 (omega arith)
+        let len = w.behind_len in
+        let value : get_or (set (set behind n inside) q next) x 0 ≡ inside =
+        get_or-set_other (set behind n inside) q x next 0 a ∙ ap (λ y. get_or (set behind n inside) y 0) e ∙ get_or-set_same behind n inside 0 (omega arith)
         in
         let P : ℕ → Type 0 = λ y. IsLeast (TopsBehind t (n + 1) y) inside in
         let Q : ℕ → Type 0 = λ j. IsLeast (TopsBehind t (n + 1) x) j in
-        subst Q (sym value) (subst P (sym e) own)
+        subst Q (sym value) (subst P (sym e) in_here)
     each_at x l h (inr a) (inr b) =
-        let value : get_or (set (set floors n inside) q behind) x 0 ≡ get_or floors x 0 = get_or-set_other (set floors n inside) q x behind 0 a ∙ get_or-set_other floors n x inside 0 b in
+        let value : get_or (set (set behind n inside) q next) x 0 ≡ get_or behind x 0 = get_or-set_other (set behind n inside) q x next 0 a ∙ get_or-set_other behind n x inside 0 b in
         let Q : ℕ → Type 0 = λ j. IsLeast (TopsBehind t (n + 1) x) j in
-        subst Q (sym value) (behind_same x (get_or floors x 0) (λ z. a (z ∙ sym up)) (w.each x (omega arith) h))
+        subst Q (sym value) (behind_same x (get_or behind x 0) (λ z. a (z ∙ sym up)) (w.each x (omega arith) h))
