@@ -496,6 +496,76 @@ judge 'a sheet to a full device' $? 4 '' $'cwstm: write fault\n'
 "$program" keep <&- > text 2> note
 judge 'a sheet where nothing can be read' $? 3 '' $'cwstm: read fault\n'
 
+# ## Checks of sheets
+
+# checks NAME STATUS TEXT NOTE: `check` says this of the file `sheet`
+checks() {
+  local status=0
+  timeout 60 "$program" check < sheet > text 2> note || status=$?
+  judge "check of $1" "$status" "$2" "$3" "$4"
+}
+
+# finds NAME ANSWER: the same; ANSWER is `sound`, `broken PART`, or the line and the kind of the first fault
+finds() {
+  case $2 in
+    sound) checks "$1" 0 $'sound\n' '' ;;
+    broken*) checks "$1" 11 "$2"$'\n' '' ;;
+    *) checks "$1" 10 '' "cwstm: line ${2/ /: }"$'\n' ;;
+  esac
+}
+
+sheets=$root/outside/sheets
+# beside each lies what `check` says
+for sheet in "$sheets"/*.sheet; do
+  cp "$sheet" sheet
+  said=${sheet%.sheet}.says
+  checks "$(basename "$sheet")" "$(sed -n 's/^status //p' "$said")" "$(sed -n 's/^text //p' "$said")"$'\n' "$(sed -n 's/^note //p' "$said")"
+done
+# and of sheets with something changed
+while IFS= read -r line; do
+  answer=${line%% | *}
+  rest=${line#* | }
+  commands=()
+  while [ "$rest" != "${rest#* | }" ]; do
+    rest=${rest#* | }
+    commands+=(-e "${rest%% | *}")
+  done
+  changed=${line#* | }
+  changed=${changed%% | *}
+  sed "${commands[@]}" "$sheets/$changed.sheet" > sheet
+  if cmp -s sheet "$sheets/$changed.sheet"; then
+    failed=$((failed + 1))
+    echo "FAILED $line: nothing is changed"
+  fi
+  finds "$line" "$answer"
+done < <(grep -v '^#' "$sheets/changes" | grep ' | ')
+head -c -1 "$sheets/P.sheet" > sheet
+finds 'P without its last newline' '20 Unexpected'
+{ cat "$sheets/P.sheet"; head -c $((67108864 - $(stat -c %s "$sheets/P.sheet"))) /dev/zero | tr '\0' '\n'; } > sheet
+finds 'as many bytes as a sheet may have' '21 Unexpected'
+echo >> sheet
+finds 'one byte more' '0 TooLong'
+for words in '--workers 1' '--workers 4'; do
+  printf 'cell c; fn main() { let i = 0; while i < 100 { spawn { atomic { c = c + 1; } } i = i + 1; } out 7; }' > source
+  # the words stand apart by blanks
+  # shellcheck disable=SC2086
+  "$program" keep $words < source > sheet 2> note
+  finds "a sheet of $words" sound
+done
+printf 'cwstm record 1\n' > source
+try 'a sheet of one line' 10 '' $'cwstm: line 2: Unexpected\n' check
+try 'a check behind which nothing more may come' 10 '' $'cwstm: line 2: Unexpected\n' check --
+for words in 'x' '7' '-- x' '--fuel 1' '--report 1' '--workers 1' '-- --' '-'; do
+  # shellcheck disable=SC2086
+  try "check $words" 2 '' "$usage" check $words
+done
+cp "$sheets/P.sheet" source
+: > text
+"$program" check < source > /dev/full 2> note
+judge 'the answer to a full device' $? 4 '' $'cwstm: write fault\n'
+"$program" check <&- > text 2> note
+judge 'a check where nothing can be read' $? 3 '' $'cwstm: read fault\n'
+
 # ## Races
 
 # races_of WANTED SOURCE WORD..: the races of this source, with `/` for a newline

@@ -18,13 +18,14 @@ use Rattle.cw_record.proofs.Replay.OneRun.{same_end}
 use Rattle.cw_replay.proofs.Found.{find_contains}
 use Rattle.cw_replay.proofs.Attempts.Recorded.{conflict_has_fork, records_attempts}
 use Rattle.cw_words.specs.declared.command.Command.{Command}
-use Rattle.cw_words.specs.declared.command.Command.TheVariants.{Run, Sim, Load, Keep, Races}
+use Rattle.cw_words.specs.declared.command.Command.TheVariants.{Run, Sim, Load, Keep, Races, Check}
 use Rattle.cw_top.specs.declared.outcome.Note.{Note}
 use Rattle.cw_top.specs.declared.outcome.Note.TheVariants as note
-use Rattle.cw_top.specs.Outcome.{IsStatus, status_of_end}
+use Rattle.cw_top.specs.Outcome.{IsStatus, IsStatusOfRun, status_of_end}
 use Rattle.cw_top.specs.Runs.{IsDoneAs, IsDoneBy, IsRunOf}
 use Rattle.cw_top.specs.Spent.{IsSpentBy, SpentItsBudget, StandsAtBudget}
 use Rattle.cw_top.specs.Written.{end_of_one_memory}
+use Rattle.cw_top.proofs.Judged.{none_of_runs, run_or_check}
 
 pub by_end : (e : RecordEnd) → 7 ≡ status_of_end e → (x : ℕ) × (e ≡ Budget x)
 by_end (Finished m o) is = cc
@@ -69,17 +70,25 @@ by_command : (co : Command) (r : Record) → IsNumbered r.tree → IsReplayed r 
 by_command (Run ws ls w p) r tree same done x is = stands r tree same x is
 by_command (Load tr w) r tree same done x is = stands r tree same x is
 by_command (Keep ws ls w) r tree same done x is = stands r tree same x is
+by_command Check r tree same done x is = absurd done
 by_command (Races ws ls) r tree same done x is = subst HasEnded is done.ended
 by_command (Sim ws ls w s p) r tree same done x is = budget r tree same x is done.coherent
 
-pub spends : (command : Option Command) (kept : Option Record) (status : ℕ) (n : Note) (left : Option (List ℕ)) → IsStatus kept status n → IfSome kept (IsRunOf command left) → IfSome kept (IsDoneAs command) → status ≡ 7 → IsSomeAnd kept (IsSpentBy command)
-spends command None status note.Nothing left is run done seven = absurd is
-spends None (Some r) status note.Nothing left is run done seven = absurd run
-spends (Some c) (Some r) status note.Nothing left (inl (same, is)) run done seven = let (x, e) = by_end r.end (sym seven ∙ is) in by_command c r run.tree same done x e
-spends (Some c) (Some r) status note.Nothing left (inr (other, is)) run done seven = cc
-spends command kept status note.Usage left (none, is) run done seven = cc
-spends command kept status note.Memory left (none, is) run done seven = cc
-spends command kept status note.Read left (none, is) run done seven = cc
-spends command kept status note.Write left (some, is) run done seven = cc
-spends command kept status (note.Text f) left (none, is) run done seven = cc
-spends command kept status (note.Name f) left (none, is) run done seven = cc
+spends_run : (command : Option Command) (kept : Option Record) (status : ℕ) (n : Note) (left : Option (List ℕ)) → IsStatusOfRun kept status n → IfSome kept (IsRunOf command left) → IfSome kept (IsDoneAs command) → status ≡ 7 → IsSomeAnd kept (IsSpentBy command)
+spends_run command None status note.Nothing left is run done seven = absurd is
+spends_run None (Some r) status note.Nothing left is run done seven = absurd run
+spends_run (Some c) (Some r) status note.Nothing left (inl (same, is)) run done seven = let (x, e) = by_end r.end (sym seven ∙ is) in by_command c r run.tree same done x e
+spends_run (Some c) (Some r) status note.Nothing left (inr (other, is)) run done seven = cc
+spends_run command kept status note.Usage left (none, is) run done seven = cc
+spends_run command kept status note.Memory left (none, is) run done seven = cc
+spends_run command kept status note.Read left (none, is) run done seven = cc
+spends_run command kept status note.Write left (some, is) run done seven = cc
+spends_run command kept status (note.Text f) left (none, is) run done seven = cc
+spends_run command kept status (note.Name f) left (none, is) run done seven = cc
+spends_run command kept status (note.Sheet f) left is run done seven = absurd is
+
+pub spends : (command : Option Command) (kept : Option Record) (status : ℕ) (n : Note) (left : Option (List ℕ)) → IsStatus command kept status n → IfSome kept (IsRunOf command left) → IfSome kept (IsDoneAs command) → status ≡ 7 → IsSomeAnd kept (IsSpentBy command)
+spends command kept status n left is run done seven = elim (run_or_check command kept status n is) [
+  | inl of_run ↦ spends_run command kept status n left of_run run done seven
+  | inr of_check ↦ absurd ((none_of_runs status n of_check.2).2.0 seven)
+]

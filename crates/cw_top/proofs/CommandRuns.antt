@@ -11,7 +11,7 @@ use Rattle.cw_record.specs.declared.record_end.RecordEnd.TheVariants.{Moves}
 use Rattle.cw_record.specs.Records.{BlocksEnded, HasEnded, HasItsOutputs, IsCoherentRun, IsDepthFirst, IsNumberedDepthFirst, IsReplayed}
 use Rattle.cw_pool.specs.Recorded.{IsOfBoard, IsOfOneWorker}
 use Rattle.cw_words.specs.declared.command.Command.{Command}
-use Rattle.cw_words.specs.declared.command.Command.TheVariants.{Run, Sim, Load, Keep, Races}
+use Rattle.cw_words.specs.declared.command.Command.TheVariants.{Run, Sim, Load, Keep, Races, Check}
 use Rattle.cw_top.specs.Runs.{IsDoneBy, IsItsProgram, IsItsSource, IsOfThreads, IsRunBy}
 use Rattle.cw_top.specs.Written.{telling_of}
 use Rattle.cw_top.specs.declared.telling.Telling.{Telling}
@@ -27,6 +27,8 @@ its_program (Sim ws ls w sc rp) None s p its is = tt
 its_program (Sim ws ls w sc rp) (Some bytes) s p its is = (s, (its, is))
 its_program (Keep ws ls w) None s p its is = tt
 its_program (Races ws ls) None s p its is = tt
+its_program Check None s p its is = tt
+its_program Check (Some bytes) s p its is = (s, (its, is))
 its_program (Races ws ls) (Some bytes) s p its is = (s, (its, is))
 its_program (Keep ws ls w) (Some bytes) s p its is = (s, (its, is))
 
@@ -66,6 +68,7 @@ of_races (Sim ws ls w s p) r done is = absurd is
 of_races (Load n w) r done is = absurd is
 of_races (Keep ws ls w) r done is = absurd is
 of_races (Races ws ls) r done is = done
+of_races Check r done is = absurd done
 
 pub one_worker : (co : Command) (r : Record) → IsDoneBy co r → telling_of co ≡ RacesIn → IsOfOneWorker r
 one_worker co r done is = of_races co r done (subst IsRacesIn (sym is) tt)

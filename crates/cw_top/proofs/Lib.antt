@@ -1,3 +1,4 @@
+mod Judged
 mod Ready
 mod SpentMoves
 mod Budgets
@@ -10,3 +11,5 @@ pub mod Pieces
 pub mod Statuses
 mod Checks
 mod Told
+mod SheetsRead
+mod Commands

@@ -16,13 +16,14 @@ use Rattle.cw_record.proofs.Replay.OneRun.{replay_ends}
 use Rattle.cw_report.specs.Results.{end_text, finished_text}
 use Rattle.cw_gen.specs.Load.{load_tree}
 use Rattle.cw_words.specs.declared.command.Command.{Command}
-use Rattle.cw_words.specs.declared.command.Command.TheVariants.{Run, Sim, Load, Keep, Races}
+use Rattle.cw_words.specs.declared.command.Command.TheVariants.{Run, Sim, Load, Keep, Races, Check}
 use Rattle.cw_words.specs.declared.command.ReportVersion.{ReportVersion}
 use Rattle.cw_words.specs.Words.{limits_of, words_of}
 use Rattle.cw_code.specs.Ranges.{default_limits}
 use Rattle.cw_top.specs.declared.outcome.Note.{Note}
 use Rattle.cw_top.specs.declared.outcome.Note.TheVariants as note
-use Rattle.cw_top.specs.Outcome.{IsStatus, status_of_end}
+use Rattle.cw_top.specs.Outcome.{IsStatus, IsStatusOfRun, status_of_end}
+use Rattle.cw_top.specs.Audited.{TellsBy}
 use Rattle.cw_top.specs.OneMemory.{IsOneMemory, IsResultText, IsTextOfEnd, WritesWhatOneMemoryGives}
 use Rattle.cw_top.specs.OverSource.{IsRunOfDeclarations, IsRunOfSource}
 use Rattle.cw_top.specs.Runs.{IsRunBy, IsRunOf}
@@ -42,6 +43,7 @@ of_text (Run words limits workers report) ds r source text m o is cells items ws
 of_text (Sim words limits workers schedule report) ds r source text m o is cells items ws ls told = behind report r (finished_text (cells_of ds) m o) text (told ∙ (λ i. end_text (cells i) r.tree (is i) ++ report_if report r))
 of_text (Load transfers workers) ds r source text m o is cells items ws ls told = told ∙ ap (load_text_of transfers r.program.cells r.tree) is
 of_text (Races words limits) ds r source text m o is cells items ws ls told = tt
+of_text Check ds r source text m o is cells items ws ls told = tt
 of_text (Keep words limits workers) ds r source text m o is cells items ws ls told = record { sheet = sheet_of_run source r; source = items; words = ws; limits = ls; end = is; is_text = told }
 
 -- a run whose status is 0, of these declarations
@@ -79,19 +81,31 @@ of_command (Keep ws ls w) None old new r text is by run told written = tt
 of_command (Keep ws ls w) (Some bytes) old new r text is by (source, spelled, run) told written =
     (source, spelled, of_declarations (Keep ws ls w) source.items ws ls r told.source text old new is by.tree by.words by.limits run (same_items 2 bytes told.source source told.its spelled) told.told written)
 of_command (Races ws ls) None old new r text is by run told written = tt
+of_command Check left old new r text is by run told written = tt
 of_command (Races ws ls) (Some bytes) old new r text is by (source, spelled, run) told written =
     (source, spelled, of_declarations (Races ws ls) source.items ws ls r told.source text old new is by.tree by.words by.limits run (same_items 2 bytes told.source source told.its spelled) told.told written)
 
-pub one_memory : (command : Option Command) (kept : Option Record) (status : ℕ) (n : Note) (left old new : Option (List ℕ)) (before after : ℕ → Type 0) → IsStatus kept status n → IfSome kept (IsRunOf command left) → Tells (IsTextOfCommand command left) kept status n old new before after → status ≡ 0 → IsOneMemory command left old new
-one_memory command None status note.Nothing left old new before after is run told zero = absurd is
-one_memory None (Some r) status note.Nothing left old new before after is run told zero = absurd run
-one_memory (Some co) (Some r) status note.Nothing left old new before after (inl (same, is)) run told zero =
+one_memory_run : (command : Option Command) (kept : Option Record) (status : ℕ) (n : Note) (left old new : Option (List ℕ)) (before after : ℕ → Type 0) → IsStatusOfRun kept status n → IfSome kept (IsRunOf command left) → Tells (IsTextOfCommand command left) kept status n old new before after → status ≡ 0 → IsOneMemory command left old new
+one_memory_run command None status note.Nothing left old new before after is run told zero = absurd is
+one_memory_run None (Some r) status note.Nothing left old new before after is run told zero = absurd run
+one_memory_run (Some co) (Some r) status note.Nothing left old new before after (inl (same, is)) run told zero =
     let (is_text, written) = written_at (IsTextOfCommand (Some co) left) r status old new before after told zero in
     of_command co left old new r told.text (sym zero ∙ is) run (of_source (Some co) left (Some r) run same) is_text written
-one_memory (Some co) (Some r) status note.Nothing left old new before after (inr (other, is)) run told zero = cc
-one_memory command kept status note.Usage left old new before after (none, is) run told zero = cc
-one_memory command kept status note.Memory left old new before after (none, is) run told zero = cc
-one_memory command kept status note.Read left old new before after (none, is) run told zero = cc
-one_memory command kept status note.Write left old new before after (some, is) run told zero = cc
-one_memory command kept status (note.Text f) left old new before after (none, is) run told zero = cc
-one_memory command kept status (note.Name f) left old new before after (none, is) run told zero = cc
+one_memory_run (Some co) (Some r) status note.Nothing left old new before after (inr (other, is)) run told zero = cc
+one_memory_run command kept status note.Usage left old new before after (none, is) run told zero = cc
+one_memory_run command kept status note.Memory left old new before after (none, is) run told zero = cc
+one_memory_run command kept status note.Read left old new before after (none, is) run told zero = cc
+one_memory_run command kept status note.Write left old new before after (some, is) run told zero = cc
+one_memory_run command kept status (note.Text f) left old new before after (none, is) run told zero = cc
+one_memory_run command kept status (note.Name f) left old new before after (none, is) run told zero = cc
+one_memory_run command kept status (note.Sheet f) left old new before after is run told zero = absurd is
+
+module _ (kept : Option Record) (status : ℕ) (n : Note) (left old new : Option (List ℕ)) (before after : ℕ → Type 0) where
+  pub one_memory : (command : Option Command) → IsStatus command kept status n → IfSome kept (IsRunOf command left) → TellsBy command left kept status n old new before after → status ≡ 0 → IsOneMemory command left old new
+  one_memory None is run told zero = one_memory_run None kept status n left old new before after is run told zero
+  one_memory (Some (Run ws ls w p)) is run told zero = one_memory_run (Some (Run ws ls w p)) kept status n left old new before after is run told zero
+  one_memory (Some (Sim ws ls w s p)) is run told zero = one_memory_run (Some (Sim ws ls w s p)) kept status n left old new before after is run told zero
+  one_memory (Some (Load tr w)) is run told zero = one_memory_run (Some (Load tr w)) kept status n left old new before after is run told zero
+  one_memory (Some (Keep ws ls w)) is run told zero = one_memory_run (Some (Keep ws ls w)) kept status n left old new before after is run told zero
+  one_memory (Some (Races ws ls)) is run told zero = one_memory_run (Some (Races ws ls)) kept status n left old new before after is run told zero
+  one_memory (Some Check) is run told zero = tt

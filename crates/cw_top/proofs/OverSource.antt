@@ -13,7 +13,7 @@ use Rattle.cw_text.specs.Syntax.{Declaration}
 use Rattle.cw_strand.specs.Programs.{IsProgramOf}
 use Rattle.cw_gen.specs.Load.{load_tree}
 use Rattle.cw_words.specs.declared.command.Command.{Command}
-use Rattle.cw_words.specs.declared.command.Command.TheVariants.{Run, Sim, Load, Keep, Races}
+use Rattle.cw_words.specs.declared.command.Command.TheVariants.{Run, Sim, Load, Keep, Races, Check}
 use Rattle.cw_top.specs.Runs.{IsRunBy, IsRunOf}
 use Rattle.cw_top.specs.OverSource.{IsRunOfSource, IsRunOfSyntax, IsRunOfDeclarations}
 use Rattle.cw_top.specs.Refusals.{Spells, newest_language}
@@ -44,5 +44,7 @@ of_source (Some (Sim ws ls w s p)) (Some bytes) (Some r) run same = of_syntax (S
 of_source (Some (Keep ws ls w)) None (Some r) run same = tt
 of_source (Some (Keep ws ls w)) (Some bytes) (Some r) run same = of_syntax (Keep ws ls w) bytes r run.program run same
 of_source (Some (Races ws ls)) None (Some r) run same = tt
+of_source (Some Check) None (Some r) run same = tt
+of_source (Some Check) (Some bytes) (Some r) run same = of_syntax Check bytes r run.program run same
 of_source (Some (Races ws ls)) (Some bytes) (Some r) run same = of_syntax (Races ws ls) bytes r run.program run same
 of_source (Some (Load tr w)) left (Some r) run same = of_tree (Load tr w) left (load_tree tr) r run.program run same

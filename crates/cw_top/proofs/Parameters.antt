@@ -15,11 +15,11 @@ use Rattle.cw_job.proofs.Room.Lawful.{source_takes}
 use Rattle.cw_gen.specs.Load.{load_tree}
 use Rattle.cw_gen.proofs.Mains.{takes_no_words}
 use Rattle.cw_words.specs.declared.command.Command.{Command}
-use Rattle.cw_words.specs.declared.command.Command.TheVariants.{Run, Sim, Load, Keep, Races}
+use Rattle.cw_words.specs.declared.command.Command.TheVariants.{Run, Sim, Load, Keep, Races, Check}
 use Rattle.cw_words.specs.Words.{words_of}
 use Rattle.cw_top.specs.declared.outcome.Note.TheVariants.{Usage}
 use Rattle.cw_top.specs.Outcome.{HasCause}
-use Rattle.cw_top.specs.Runs.{IsItsProgram}
+use Rattle.cw_top.specs.Runs.{IsItsProgram, RunsProgram}
 use Rattle.cw_top.specs.Refusals.{AsksFor, IsMisfit, Spells, note_of_fault, of_reading, refusal}
 
 module _ (ds : List Declaration) (p : Program) (is : IsProgramOf ds p) (n : ℕ) where
@@ -56,9 +56,10 @@ fits l None words p spells t misfit = misfit
 fits l (Some bytes) words p spells t misfit = misfit.1 (asks l (length words) bytes p spells t)
 
 -- a command is of no use where its program takes another number of words; that of a load takes none, as it has
-pub of_no_use : (co : Command) (left : Option (List ℕ)) (p : Program) (r w : Type 0) → IsItsProgram co left p → (TakesWords p (length (words_of co)) → ⊥) → HasCause (Some co) Usage left r w
-of_no_use (Run ws ls wk rp) left p r w its other = misfits 2 left ws p its other
-of_no_use (Sim ws ls wk sc rp) left p r w its other = misfits 2 left ws p its other
-of_no_use (Keep ws ls wk) left p r w its other = misfits 2 left ws p its other
-of_no_use (Races ws ls) left p r w its other = misfits 2 left ws p its other
-of_no_use (Load tr wk) left p r w its other = other (code_takes (load_tree tr) p its 0 (takes_no_words tr))
+pub of_no_use : (co : Command) (left : Option (List ℕ)) (p : Program) (r w : Type 0) → IsItsProgram co left p → (TakesWords p (length (words_of co)) → ⊥) → RunsProgram co → HasCause (Some co) Usage left r w
+of_no_use (Run ws ls wk rp) left p r w its other runs = misfits 2 left ws p its other
+of_no_use (Sim ws ls wk sc rp) left p r w its other runs = misfits 2 left ws p its other
+of_no_use (Keep ws ls wk) left p r w its other runs = misfits 2 left ws p its other
+of_no_use (Races ws ls) left p r w its other runs = misfits 2 left ws p its other
+of_no_use (Load tr wk) left p r w its other runs = other (code_takes (load_tree tr) p its 0 (takes_no_words tr))
+of_no_use Check left p r w its other runs = absurd runs

@@ -1,15 +1,15 @@
 -- A command has numbers within their bounds: it has workers, lists none but them, and has a column for its first strand.
 use Rattle.std.proofs.Common.{◌≡◌, ◌≤◌, ◌<◌, ◌-◌, ◌^◌, ◌∷◌, ◌&&◌, [], ℕ, zero, suc, Bool, true, false, List, length, Option, Some, None, IfSome, arith, refl, rules}
-use Rattle.std.specs.Prelude.{All, codes, if◌then◌else◌, nat_le, option_and_then, option_map}
+use Rattle.std.specs.Prelude.{◌==◌, All, codes, if◌then◌else◌, nat_le, option_and_then, option_map}
 use Rattle.std.specs.Str.{all_ascii_digits, bytes_eq}
 use Rattle.std.specs.Str.Parse.{digits_value}
 use Rattle.cw_code.specs.declared.Limits.{Limits}
 use Rattle.cw_io.specs.declared.schedule.Schedule.TheVariants.{List as Listed, Seeded}
 use Rattle.cw_sim.specs.Turns.{ListsWorkers}
-use Rattle.cw_words.specs.declared.command.Command.TheVariants.{Load}
+use Rattle.cw_words.specs.declared.command.Command.TheVariants.{Load, Check}
 use Rattle.cw_code.specs.Ranges.{NumberOption, aborts_option, fuel_option, moves_option, size_option, strands_option, workers_option}
 use Rattle.cw_words.specs.Options.{Given, GivenOption, are_known, given, integers_of, list_below, number_in, number_given, number_within, numbers_below, sole_word, parts_of, option_value}
-use Rattle.cw_words.specs.Words.{command_of, keep_given, keep_options, limits_given, load_given, load_options, most_transfers, races_given, races_options, transfers_given, report_given, run_given, run_options, schedule_given, schedule_in, sim_given, sim_options, most_listed}
+use Rattle.cw_words.specs.Words.{check_given, check_options, command_of, keep_given, keep_options, limits_given, load_given, load_options, most_transfers, races_given, races_options, transfers_given, report_given, run_given, run_options, schedule_given, schedule_in, sim_given, sim_options, most_listed}
 use Rattle.cw_top.specs.Runs.{IsReady}
 
 -- ## Values that may be missing
@@ -129,14 +129,18 @@ keep_ready g = where_true IsReady (are_known keep_options g.options) _
 races_ready : (g : Given) → IfSome (races_given g) IsReady
 races_ready g = where_true IsReady (are_known races_options g.options) _ (each_some IsReady _ (limits_given g.options) (λ ls. map_some IsReady _ (integers_of g.words) (λ ns. tt)))
 
+check_ready : (g : Given) → IfSome (check_given g) IsReady
+check_ready g = where_true IsReady (are_known check_options g.options && length g.words == 0) (Some Check) tt
+
 pub ready : (words : List (List ℕ)) → IfSome (command_of words) IsReady
 ready [] = tt
-ready (name ∷ words) = go (bytes_eq name (codes "run")) (bytes_eq name (codes "sim")) (bytes_eq name (codes "load")) (bytes_eq name (codes "keep")) (bytes_eq name (codes "races"))
+ready (name ∷ words) = go (bytes_eq name (codes "run")) (bytes_eq name (codes "sim")) (bytes_eq name (codes "load")) (bytes_eq name (codes "keep")) (bytes_eq name (codes "races")) (bytes_eq name (codes "check"))
   where
-    go : (a b c d e : Bool) → IfSome (if a then option_and_then run_given (given words) else if b then option_and_then sim_given (given words) else if c then option_and_then load_given (given words) else if d then option_and_then keep_given (given words) else if e then option_and_then races_given (given words) else None) IsReady
-    go true b c d e = each_some IsReady run_given (given words) run_ready
-    go false true c d e = each_some IsReady sim_given (given words) sim_ready
-    go false false true d e = each_some IsReady load_given (given words) load_ready
-    go false false false true e = each_some IsReady keep_given (given words) keep_ready
-    go false false false false true = each_some IsReady races_given (given words) races_ready
-    go false false false false false = tt
+    go : (a b c d e f : Bool) → IfSome (if a then option_and_then run_given (given words) else if b then option_and_then sim_given (given words) else if c then option_and_then load_given (given words) else if d then option_and_then keep_given (given words) else if e then option_and_then races_given (given words) else if f then option_and_then check_given (given words) else None) IsReady
+    go true b c d e f = each_some IsReady run_given (given words) run_ready
+    go false true c d e f = each_some IsReady sim_given (given words) sim_ready
+    go false false true d e f = each_some IsReady load_given (given words) load_ready
+    go false false false true e f = each_some IsReady keep_given (given words) keep_ready
+    go false false false false true f = each_some IsReady races_given (given words) races_ready
+    go false false false false false true = each_some IsReady check_given (given words) check_ready
+    go false false false false false false = tt

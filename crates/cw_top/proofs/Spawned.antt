@@ -4,7 +4,7 @@ use Rattle.cw_record.specs.declared.record.Record.{Record}
 use Rattle.cw_record.specs.Records.{IsCoherentRun}
 use Rattle.cw_replay.proofs.Spawning.ForksSpawned.{forks_need_spawns}
 use Rattle.cw_words.specs.declared.command.Command.{Command}
-use Rattle.cw_words.specs.declared.command.Command.TheVariants.{Run, Sim, Load, Keep, Races}
+use Rattle.cw_words.specs.declared.command.Command.TheVariants.{Run, Sim, Load, Keep, Races, Check}
 use Rattle.cw_top.specs.declared.outcome.Note.{Note}
 use Rattle.cw_top.specs.Outcome.{IsStatus}
 use Rattle.cw_top.specs.OverSource.{Spawns}
@@ -27,7 +27,8 @@ by_kept (Some (Run ws ls w p)) left (Some r) run done spent = tt
 by_kept (Some (Load tr w)) left (Some r) run done spent = tt
 by_kept (Some (Keep ws ls w)) left (Some r) run done spent = tt
 by_kept (Some (Races ws ls)) left (Some r) run done spent = spent
+by_kept (Some Check) left (Some r) run done spent = spent
 by_kept (Some (Sim ws ls w s p)) left (Some r) run done spent = of_source 2 left r run.program done.coherent spent
 
-pub spawned : (command : Option Command) (kept : Option Record) (status : ℕ) (n : Note) (left : Option (List ℕ)) → IsStatus kept status n → IfSome kept (IsRunOf command left) → IfSome kept (IsDoneAs command) → status ≡ 7 → IsSpentOn command left
+pub spawned : (command : Option Command) (kept : Option Record) (status : ℕ) (n : Note) (left : Option (List ℕ)) → IsStatus command kept status n → IfSome kept (IsRunOf command left) → IfSome kept (IsDoneAs command) → status ≡ 7 → IsSpentOn command left
 spawned command kept status n left is run done seven = by_kept command left kept run done (spends command kept status n left is run done seven)

@@ -16,21 +16,23 @@ use Rattle.cw_record.specs.Records.{HasEnded, IsReplayed}
 use Rattle.cw_record.specs.Replay.{SameEnd}
 use Rattle.cw_record.proofs.Replay.OneRun.{same_end}
 use Rattle.cw_words.specs.declared.command.Command.{Command}
-use Rattle.cw_words.specs.declared.command.Command.TheVariants.{Run, Sim, Load, Keep, Races}
+use Rattle.cw_words.specs.declared.command.Command.TheVariants.{Run, Sim, Load, Keep, Races, Check}
 use Rattle.cw_top.specs.declared.outcome.Note.{Note}
 use Rattle.cw_top.specs.declared.outcome.Note.TheVariants as note
 use Rattle.cw_top.specs.Refusals.{AsksFor, IsMisfit, Spells, refusal}
+use Rattle.cw_top.specs.Audited.{EndsWell, FindsBroken, TellsBy}
+use Rattle.cw_top.proofs.Judged.{check_broken, check_ends, check_read, check_refuses, check_sound, check_unread, check_write, none_of_runs, run_or_check, telling_of_check}
 use Rattle.cw_top.proofs.Budgets.{by_end}
 use Rattle.cw_top.proofs.Parameters.{fits, spelled_accepted}
-use Rattle.cw_top.specs.Outcome.{HasCause, IsCauseOfRun, IsCauseOfTelling, IsMisused, IsRefusedWith, IsStatus, IsStatusOf, IsSurelyMisused, IsSurelyRefused, MayBeMisusedWith, MayEndWith, status_of_end, FailsToRead}
+use Rattle.cw_top.specs.Outcome.{HasCause, IsCauseOfCheck, IsCauseOfRun, IsCauseOfTelling, IsMisused, IsRefusedWith, IsStatus, IsStatusOf, IsStatusOfRun, IsSurelyMisused, IsSurelyRefused, MayBeMisusedWith, MayEndWith, status_of_end, FailsToRead}
 use Rattle.cw_top.specs.Runs.{HasSeveralWorkers, IsDoneAs, IsDoneBy, IsOfMoves, IsOfThreads, IsReady, IsRunOf}
-use Rattle.cw_top.specs.Taken.{Accepts, IsRefusedFor, IsRefusedIn}
+use Rattle.cw_top.specs.Taken.{Accepts, IsRefusedFor, IsRefusedIn, IsUnreadFor}
 use Rattle.cw_top.specs.Written.{IsTextBy, IsTextOfCommand, Tells, Writes, WritesEndOfOneMemory, end_of_one_memory, text_owed}
 
 -- words that are no command come to status 2, or memory runs out
-of_none : (kept : Option Record) (status : ℕ) (n : Note) → (n ≡ note.Usage) ⊎ (n ≡ note.Memory) → IsStatus kept status n → (status ≡ 2) ⊎ (status ≡ 1)
-of_none kept status n (inl is) h = inl ((subst (λ m. IsStatus kept status m) is h).1)
-of_none kept status n (inr is) h = inr ((subst (λ m. IsStatus kept status m) is h).1)
+of_none : (kept : Option Record) (status : ℕ) (n : Note) → (n ≡ note.Usage) ⊎ (n ≡ note.Memory) → IsStatusOfRun kept status n → (status ≡ 2) ⊎ (status ≡ 1)
+of_none kept status n (inl is) h = inl ((subst (λ m. IsStatusOfRun kept status m) is h).1)
+of_none kept status n (inr is) h = inr ((subst (λ m. IsStatusOfRun kept status m) is h).1)
 
 not_low : (status : ℕ) → (status ≡ 2) ⊎ (status ≡ 1) → (status ≢ 3) × (status ≢ 4) × (status ≢ 5)
 not_low status (inl two) = (λ h. cc, λ h. cc, λ h. cc)
@@ -43,6 +45,7 @@ memory_cause (Some (Run ws ls wk p)) n left r w is = subst (λ m. IsCauseOfRun 2
 memory_cause (Some (Sim ws ls wk sc p)) n left r w is = subst (λ m. IsCauseOfRun 2 ws m left r w) (sym is) tt
 memory_cause (Some (Keep ws ls wk)) n left r w is = subst (λ m. IsCauseOfRun 2 ws m left r w) (sym is) tt
 memory_cause (Some (Races ws ls)) n left r w is = subst (λ m. IsCauseOfRun 2 ws m left r w) (sym is) tt
+memory_cause (Some Check) n left r w is = subst (λ m. IsCauseOfCheck m left r w) (sym is) tt
 memory_cause (Some (Load tr wk)) n left r w is = subst (λ m. IsCauseOfTelling m w) (sym is) tt
 
 -- once there is a run, a command ends for the same causes as its telling
@@ -54,12 +57,14 @@ run_cause l words note.Read left r w cause = absurd cause
 run_cause l words note.Write left r w cause = cause
 run_cause l words (note.Text f) left r w cause = absurd cause
 run_cause l words (note.Name f) left r w cause = absurd cause
+run_cause l words (note.Sheet f) left r w cause = absurd cause
 
 pub telling_cause : (co : Command) (n : Note) (left : Option (List ℕ)) (r w : Type 0) → IsCauseOfTelling n w → HasCause (Some co) n left r w
 telling_cause (Run ws ls wk p) n left r w cause = run_cause 2 ws n left r w cause
 telling_cause (Sim ws ls wk sc p) n left r w cause = run_cause 2 ws n left r w cause
 telling_cause (Load tr wk) n left r w cause = cause
 telling_cause (Races ws ls) n left r w cause = run_cause 2 ws n left r w cause
+telling_cause Check n left r w cause = telling_of_check n left r w cause
 telling_cause (Keep ws ls wk) n left r w cause = run_cause 2 ws n left r w cause
 
 no_end : (e : RecordEnd) (status : ℕ) → status ≡ status_of_end e → (status ≢ 2) × (status ≢ 3) × (status ≢ 4) × (status ≢ 5)
@@ -69,7 +74,7 @@ no_end (Budget x) status is = (λ h. cc, λ h. cc, λ h. cc, λ h. cc)
 no_end Moves status is = (λ h. cc, λ h. cc, λ h. cc, λ h. cc)
 
 -- a status with which nothing is amiss
-no_fault : (kept : Option Record) (status : ℕ) → IsStatus kept status note.Nothing → (status ≢ 2) × (status ≢ 3) × (status ≢ 4) × (status ≢ 5)
+no_fault : (kept : Option Record) (status : ℕ) → IsStatusOfRun kept status note.Nothing → (status ≢ 2) × (status ≢ 3) × (status ≢ 4) × (status ≢ 5)
 no_fault None status h = absurd h
 no_fault (Some r) status (inl (same, is)) = no_end r.end status is
 no_fault (Some r) status (inr (other, is)) = (λ h. cc, λ h. cc, λ h. cc, λ h. cc)
@@ -77,7 +82,7 @@ no_fault (Some r) status (inr (other, is)) = (λ h. cc, λ h. cc, λ h. cc, λ h
 -- ## Causes
 
 -- a load reads nothing, and nothing of it is refused
-load_causes : (kept : Option Record) (status : ℕ) (n : Note) (w : Type 0) → IsStatus kept status n → IsCauseOfTelling n w → (status ≢ 2) × (status ≢ 3) × (status ≢ 5)
+load_causes : (kept : Option Record) (status : ℕ) (n : Note) (w : Type 0) → IsStatusOfRun kept status n → IsCauseOfTelling n w → (status ≢ 2) × (status ≢ 3) × (status ≢ 5)
 load_causes kept status note.Nothing w is cause = let no = no_fault kept status is in (no.0, no.1, no.3)
 load_causes kept status note.Usage w is cause = absurd cause
 load_causes kept status note.Memory w (none, is) cause = (λ h. cc, λ h. cc, λ h. cc)
@@ -85,8 +90,9 @@ load_causes kept status note.Read w is cause = absurd cause
 load_causes kept status note.Write w (some, is) cause = (λ h. cc, λ h. cc, λ h. cc)
 load_causes kept status (note.Text f) w is cause = absurd cause
 load_causes kept status (note.Name f) w is cause = absurd cause
+load_causes kept status (note.Sheet f) w is cause = absurd is
 
-load_writes : (kept : Option Record) (status : ℕ) (n : Note) (w : Type 0) → IsStatus kept status n → IsCauseOfTelling n w → status ≡ 4 → w
+load_writes : (kept : Option Record) (status : ℕ) (n : Note) (w : Type 0) → IsStatusOfRun kept status n → IsCauseOfTelling n w → status ≡ 4 → w
 load_writes kept status note.Nothing w is cause h = absurd ((no_fault kept status is).2 h)
 load_writes kept status note.Usage w is cause h = absurd cause
 load_writes kept status note.Memory w (none, is) cause h = cc
@@ -94,8 +100,9 @@ load_writes kept status note.Read w is cause h = absurd cause
 load_writes kept status note.Write w is cause h = cause
 load_writes kept status (note.Text f) w is cause h = absurd cause
 load_writes kept status (note.Name f) w is cause h = absurd cause
+load_writes kept status (note.Sheet f) w is cause h = absurd is
 
-usage_of : (l : ℕ) (words : List ℤ) (kept : Option Record) (status : ℕ) (n : Note) (left : Option (List ℕ)) (r w : Type 0) → IsStatus kept status n → IsCauseOfRun l words n left r w → status ≡ 2 → IfSome left (IsMisfit l words)
+usage_of : (l : ℕ) (words : List ℤ) (kept : Option Record) (status : ℕ) (n : Note) (left : Option (List ℕ)) (r w : Type 0) → IsStatusOfRun kept status n → IsCauseOfRun l words n left r w → status ≡ 2 → IfSome left (IsMisfit l words)
 usage_of l words kept status note.Nothing left r w is cause h = absurd ((no_fault kept status is).0 h)
 usage_of l words kept status note.Usage left r w is cause h = cause
 usage_of l words kept status note.Memory left r w (none, is) cause h = cc
@@ -103,16 +110,18 @@ usage_of l words kept status note.Read left r w (none, is) cause h = cc
 usage_of l words kept status note.Write left r w (some, is) cause h = cc
 usage_of l words kept status (note.Text f) left r w (none, is) cause h = cc
 usage_of l words kept status (note.Name f) left r w (none, is) cause h = cc
+usage_of l words kept status (note.Sheet f) left r w is cause h = absurd is
 
-pub usage : (command : Option Command) (kept : Option Record) (status : ℕ) (n : Note) (left : Option (List ℕ)) (r w : Type 0) → IsStatus kept status n → HasCause command n left r w → status ≡ 2 → IsMisused command left
+pub usage : (command : Option Command) (kept : Option Record) (status : ℕ) (n : Note) (left : Option (List ℕ)) (r w : Type 0) → IsStatus command kept status n → HasCause command n left r w → status ≡ 2 → IsMisused command left
 usage None kept status n left r w is cause h = tt
 usage (Some (Run ws ls wk p)) kept status n left r w is cause h = usage_of 2 ws kept status n left r w is cause h
 usage (Some (Sim ws ls wk sc p)) kept status n left r w is cause h = usage_of 2 ws kept status n left r w is cause h
 usage (Some (Keep ws ls wk)) kept status n left r w is cause h = usage_of 2 ws kept status n left r w is cause h
 usage (Some (Races ws ls)) kept status n left r w is cause h = usage_of 2 ws kept status n left r w is cause h
+usage (Some Check) kept status n left r w is cause h = (none_of_runs status n is.1).0 h
 usage (Some (Load tr wk)) kept status n left r w is cause h = (load_causes kept status n w is cause).0 h
 
-read_fault_of : (l : ℕ) (words : List ℤ) (kept : Option Record) (status : ℕ) (n : Note) (left : Option (List ℕ)) (r w : Type 0) → IsStatus kept status n → IsCauseOfRun l words n left r w → status ≡ 3 → r
+read_fault_of : (l : ℕ) (words : List ℤ) (kept : Option Record) (status : ℕ) (n : Note) (left : Option (List ℕ)) (r w : Type 0) → IsStatusOfRun kept status n → IsCauseOfRun l words n left r w → status ≡ 3 → r
 read_fault_of l words kept status note.Nothing left r w is cause h = absurd ((no_fault kept status is).1 h)
 read_fault_of l words kept status note.Usage left r w (none, is) cause h = cc
 read_fault_of l words kept status note.Memory left r w (none, is) cause h = cc
@@ -120,16 +129,18 @@ read_fault_of l words kept status note.Read left r w is cause h = cause
 read_fault_of l words kept status note.Write left r w (some, is) cause h = cc
 read_fault_of l words kept status (note.Text f) left r w (none, is) cause h = cc
 read_fault_of l words kept status (note.Name f) left r w (none, is) cause h = cc
+read_fault_of l words kept status (note.Sheet f) left r w is cause h = absurd is
 
-pub read_fault : (command : Option Command) (kept : Option Record) (status : ℕ) (n : Note) (left : Option (List ℕ)) (r w : Type 0) → IsStatus kept status n → HasCause command n left r w → status ≡ 3 → r
+pub read_fault : (command : Option Command) (kept : Option Record) (status : ℕ) (n : Note) (left : Option (List ℕ)) (r w : Type 0) → IsStatus command kept status n → HasCause command n left r w → status ≡ 3 → r
 read_fault None kept status n left r w is cause h = absurd ((not_low status (of_none kept status n cause is)).0 h)
 read_fault (Some (Run ws ls wk p)) kept status n left r w is cause h = read_fault_of 2 ws kept status n left r w is cause h
 read_fault (Some (Sim ws ls wk sc p)) kept status n left r w is cause h = read_fault_of 2 ws kept status n left r w is cause h
 read_fault (Some (Keep ws ls wk)) kept status n left r w is cause h = read_fault_of 2 ws kept status n left r w is cause h
 read_fault (Some (Races ws ls)) kept status n left r w is cause h = read_fault_of 2 ws kept status n left r w is cause h
+read_fault (Some Check) kept status n left r w is cause h = check_read status n left r w is.1 cause h
 read_fault (Some (Load tr wk)) kept status n left r w is cause h = absurd ((load_causes kept status n w is cause).1 h)
 
-write_fault_of : (l : ℕ) (words : List ℤ) (kept : Option Record) (status : ℕ) (n : Note) (left : Option (List ℕ)) (r w : Type 0) → IsStatus kept status n → IsCauseOfRun l words n left r w → status ≡ 4 → w
+write_fault_of : (l : ℕ) (words : List ℤ) (kept : Option Record) (status : ℕ) (n : Note) (left : Option (List ℕ)) (r w : Type 0) → IsStatusOfRun kept status n → IsCauseOfRun l words n left r w → status ≡ 4 → w
 write_fault_of l words kept status note.Nothing left r w is cause h = absurd ((no_fault kept status is).2 h)
 write_fault_of l words kept status note.Usage left r w (none, is) cause h = cc
 write_fault_of l words kept status note.Memory left r w (none, is) cause h = cc
@@ -137,16 +148,18 @@ write_fault_of l words kept status note.Read left r w (none, is) cause h = cc
 write_fault_of l words kept status note.Write left r w is cause h = cause
 write_fault_of l words kept status (note.Text f) left r w (none, is) cause h = cc
 write_fault_of l words kept status (note.Name f) left r w (none, is) cause h = cc
+write_fault_of l words kept status (note.Sheet f) left r w is cause h = absurd is
 
-pub write_fault : (command : Option Command) (kept : Option Record) (status : ℕ) (n : Note) (left : Option (List ℕ)) (r w : Type 0) → IsStatus kept status n → HasCause command n left r w → status ≡ 4 → w
+pub write_fault : (command : Option Command) (kept : Option Record) (status : ℕ) (n : Note) (left : Option (List ℕ)) (r w : Type 0) → IsStatus command kept status n → HasCause command n left r w → status ≡ 4 → w
 write_fault None kept status n left r w is cause h = absurd ((not_low status (of_none kept status n cause is)).1 h)
 write_fault (Some (Run ws ls wk p)) kept status n left r w is cause h = write_fault_of 2 ws kept status n left r w is cause h
 write_fault (Some (Sim ws ls wk sc p)) kept status n left r w is cause h = write_fault_of 2 ws kept status n left r w is cause h
 write_fault (Some (Keep ws ls wk)) kept status n left r w is cause h = write_fault_of 2 ws kept status n left r w is cause h
 write_fault (Some (Races ws ls)) kept status n left r w is cause h = write_fault_of 2 ws kept status n left r w is cause h
+write_fault (Some Check) kept status n left r w is cause h = check_write status n left r w is.1 cause h
 write_fault (Some (Load tr wk)) kept status n left r w is cause h = load_writes kept status n w is cause h
 
-refused_of : (l : ℕ) (words : List ℤ) (kept : Option Record) (status : ℕ) (n : Note) (left : Option (List ℕ)) (r w : Type 0) → IsStatus kept status n → IsCauseOfRun l words n left r w → status ≡ 5 → IsRefusedIn l n left
+refused_of : (l : ℕ) (words : List ℤ) (kept : Option Record) (status : ℕ) (n : Note) (left : Option (List ℕ)) (r w : Type 0) → IsStatusOfRun kept status n → IsCauseOfRun l words n left r w → status ≡ 5 → IsRefusedIn l n left
 refused_of l words kept status note.Nothing left r w is cause h = absurd ((no_fault kept status is).3 h)
 refused_of l words kept status note.Usage left r w (none, is) cause h = cc
 refused_of l words kept status note.Memory left r w (none, is) cause h = cc
@@ -154,14 +167,44 @@ refused_of l words kept status note.Read left r w (none, is) cause h = cc
 refused_of l words kept status note.Write left r w (some, is) cause h = cc
 refused_of l words kept status (note.Text f) left r w is cause h = cause
 refused_of l words kept status (note.Name f) left r w is cause h = cause
+refused_of l words kept status (note.Sheet f) left r w is cause h = absurd is
 
-pub refused : (command : Option Command) (kept : Option Record) (status : ℕ) (n : Note) (left : Option (List ℕ)) (r w : Type 0) → IsStatus kept status n → HasCause command n left r w → status ≡ 5 → IsRefusedFor command n left
+pub refused : (command : Option Command) (kept : Option Record) (status : ℕ) (n : Note) (left : Option (List ℕ)) (r w : Type 0) → IsStatus command kept status n → HasCause command n left r w → status ≡ 5 → IsRefusedFor command n left
 refused None kept status n left r w is cause h = absurd ((not_low status (of_none kept status n cause is)).2 h)
 refused (Some (Run ws ls wk p)) kept status n left r w is cause h = refused_of 2 ws kept status n left r w is cause h
 refused (Some (Sim ws ls wk sc p)) kept status n left r w is cause h = refused_of 2 ws kept status n left r w is cause h
 refused (Some (Keep ws ls wk)) kept status n left r w is cause h = refused_of 2 ws kept status n left r w is cause h
 refused (Some (Races ws ls)) kept status n left r w is cause h = refused_of 2 ws kept status n left r w is cause h
+refused (Some Check) kept status n left r w is cause h = (none_of_runs status n is.1).1 h
 refused (Some (Load tr wk)) kept status n left r w is cause h = absurd ((load_causes kept status n w is cause).2 h)
+
+-- statuses that no run has
+run_ends : (e : RecordEnd) (status : ℕ) → status ≡ status_of_end e → (status ≢ 10) × (status ≢ 11)
+run_ends (Finished m o) status is = (λ h. cc, λ h. cc)
+run_ends (Fault x k) status is = (λ h. cc, λ h. cc)
+run_ends (Budget x) status is = (λ h. cc, λ h. cc)
+run_ends Moves status is = (λ h. cc, λ h. cc)
+
+of_no_run : (kept : Option Record) (status : ℕ) (n : Note) → IsStatusOfRun kept status n → (status ≢ 10) × (status ≢ 11)
+of_no_run None status note.Nothing is = absurd is
+of_no_run (Some r) status note.Nothing (inl (same, is)) = run_ends r.end status is
+of_no_run (Some r) status note.Nothing (inr (other, is)) = (λ h. cc, λ h. cc)
+of_no_run kept status note.Usage (none, is) = (λ h. cc, λ h. cc)
+of_no_run kept status note.Memory (none, is) = (λ h. cc, λ h. cc)
+of_no_run kept status note.Read (none, is) = (λ h. cc, λ h. cc)
+of_no_run kept status note.Write (some, is) = (λ h. cc, λ h. cc)
+of_no_run kept status (note.Text f) (none, is) = (λ h. cc, λ h. cc)
+of_no_run kept status (note.Name f) (none, is) = (λ h. cc, λ h. cc)
+of_no_run kept status (note.Sheet f) is = absurd is
+
+pub unreadable : (command : Option Command) (kept : Option Record) (status : ℕ) (n : Note) (left : Option (List ℕ)) (r w : Type 0) → IsStatus command kept status n → HasCause command n left r w → status ≡ 10 → IsUnreadFor command n left
+unreadable None kept status n left r w is cause h = absurd ((of_no_run kept status n is).0 h)
+unreadable (Some (Run ws ls wk p)) kept status n left r w is cause h = absurd ((of_no_run kept status n is).0 h)
+unreadable (Some (Sim ws ls wk sc p)) kept status n left r w is cause h = absurd ((of_no_run kept status n is).0 h)
+unreadable (Some (Keep ws ls wk)) kept status n left r w is cause h = absurd ((of_no_run kept status n is).0 h)
+unreadable (Some (Races ws ls)) kept status n left r w is cause h = absurd ((of_no_run kept status n is).0 h)
+unreadable (Some (Load tr wk)) kept status n left r w is cause h = absurd ((of_no_run kept status n is).0 h)
+unreadable (Some Check) kept status n left r w is cause h = check_unread status n left r w is.1 cause h
 
 -- ## Which statuses come
 
@@ -207,6 +250,7 @@ may_end (Load tr w) x status ready done (inl (same, is)) = on_threads x.end stat
 may_end (Load tr w) x status ready done (inr (other, is)) = inr (inr (inr (inl (is, thread_differs w x ready.0 done other))))
 may_end (Keep ws ls w) x status ready done (inl (same, is)) = on_threads x.end status w done.moves (thread_spends w x ready.0 done) is
 may_end (Keep ws ls w) x status ready done (inr (other, is)) = inr (inr (inr (inl (is, thread_differs w x ready.0 done other))))
+may_end Check x status ready done is = absurd done
 may_end (Races ws ls) x status ready done (inl (same, is)) = alone x.end status done.ended is
 may_end (Races ws ls) x status ready done (inr (other, is)) = absurd (other done.replays)
 may_end (Sim ws ls w s p) x status ready done (inl (same, is)) = came x.end status w (move_spends w s x ready.0 done) is
@@ -216,25 +260,34 @@ several_of : (co : Command) (r : Record) → IsReady co → IsDoneBy co r → (x
 several_of (Run ws ls w p) r ready done x e = thread_spends w r ready.0 done x e
 several_of (Load tr w) r ready done x e = thread_spends w r ready.0 done x e
 several_of (Keep ws ls w) r ready done x e = thread_spends w r ready.0 done x e
+several_of Check r ready done x e = absurd done
 several_of (Races ws ls) r ready done x e = subst HasEnded e done.ended
 several_of (Sim ws ls w s p) r ready done x e = move_spends w s r ready.0 done x e
 
-pub several : (command : Option Command) (kept : Option Record) (status : ℕ) (n : Note) → IsStatus kept status n → IfSome command IsReady → IfSome kept (IsDoneAs command) → status ≡ 7 → HasSeveralWorkers command
-several command None status note.Nothing is ready done seven = absurd is
-several None (Some r) status note.Nothing is ready done seven = absurd done
-several (Some co) (Some r) status note.Nothing (inl (same, is)) ready done seven = let (x, e) = by_end r.end (sym seven ∙ is) in several_of co r ready done x e
-several (Some co) (Some r) status note.Nothing (inr (other, is)) ready done seven = absurd (cc (seven, is))
-several command kept status note.Usage (none, is) ready done seven = absurd (cc (seven, is))
-several command kept status note.Memory (none, is) ready done seven = absurd (cc (seven, is))
-several command kept status note.Read (none, is) ready done seven = absurd (cc (seven, is))
-several command kept status note.Write (some, is) ready done seven = absurd (cc (seven, is))
-several command kept status (note.Text f) (none, is) ready done seven = absurd (cc (seven, is))
-several command kept status (note.Name f) (none, is) ready done seven = absurd (cc (seven, is))
+several_run : (command : Option Command) (kept : Option Record) (status : ℕ) (n : Note) → IsStatusOfRun kept status n → IfSome command IsReady → IfSome kept (IsDoneAs command) → status ≡ 7 → HasSeveralWorkers command
+several_run command None status note.Nothing is ready done seven = absurd is
+several_run None (Some r) status note.Nothing is ready done seven = absurd done
+several_run (Some co) (Some r) status note.Nothing (inl (same, is)) ready done seven = let (x, e) = by_end r.end (sym seven ∙ is) in several_of co r ready done x e
+several_run (Some co) (Some r) status note.Nothing (inr (other, is)) ready done seven = absurd (cc (seven, is))
+several_run command kept status note.Usage (none, is) ready done seven = absurd (cc (seven, is))
+several_run command kept status note.Memory (none, is) ready done seven = absurd (cc (seven, is))
+several_run command kept status note.Read (none, is) ready done seven = absurd (cc (seven, is))
+several_run command kept status note.Write (some, is) ready done seven = absurd (cc (seven, is))
+several_run command kept status (note.Text f) (none, is) ready done seven = absurd (cc (seven, is))
+several_run command kept status (note.Name f) (none, is) ready done seven = absurd (cc (seven, is))
+several_run command kept status (note.Sheet f) is ready done seven = absurd is
+
+pub several : (command : Option Command) (kept : Option Record) (status : ℕ) (n : Note) → IsStatus command kept status n → IfSome command IsReady → IfSome kept (IsDoneAs command) → status ≡ 7 → HasSeveralWorkers command
+several command kept status n is ready done seven = elim (run_or_check command kept status n is) [
+  | inl of_run ↦ several_run command kept status n of_run ready done seven
+  | inr of_check ↦ absurd ((none_of_runs status n of_check.2).2.0 seven)
+]
 
 may_want : (co : Command) (status : ℕ) → status ≡ 1 → MayEndWith (Some co) status
 may_want (Run ws ls w p) status is = inr (inr (inr (inr is)))
 may_want (Load tr w) status is = inr (inr (inr (inr is)))
 may_want (Keep ws ls w) status is = inr (inr (inr (inr is)))
+may_want Check status is = inr (inr (inr is))
 may_want (Races ws ls) status is = inr (inr is)
 may_want (Sim ws ls w s p) status is = inr (inr (inr (inr is)))
 
@@ -257,7 +310,7 @@ fitting l (Some bytes) words h misfit = misfit.1 h.1
 run_fits : (l : ℕ) (words : List ℤ) (left : Option (List ℕ)) (x : Record) → IfSome left (λ bytes. Spells l bytes x.program) → x.words ≡ words → TakesWords x.program (length x.words) → IsSomeAnd left (IsMisfit l words) → ⊥
 run_fits l words left x spelled is takes = fits l left words x.program spelled (subst (λ (vs : List ℤ). TakesWords x.program (length vs)) is takes)
 
-misused_of : (l : ℕ) (words : List ℤ) (kept : Option Record) (status : ℕ) (n : Note) (left : Option (List ℕ)) (r w : Type 0) → IsStatus kept status n → IsCauseOfRun l words n left r w → IsSomeAnd left (IsMisfit l words) → (r → ⊥)
+misused_of : (l : ℕ) (words : List ℤ) (kept : Option Record) (status : ℕ) (n : Note) (left : Option (List ℕ)) (r w : Type 0) → IsStatusOfRun kept status n → IsCauseOfRun l words n left r w → IsSomeAnd left (IsMisfit l words) → (r → ⊥)
     → ((x : Record) → kept ≡ Some x → ⊥) → (status ≡ 2) ⊎ (status ≡ 1)
 misused_of l words None status note.Nothing left r w is cause misfit no_r no_run = absurd is
 misused_of l words (Some x) status note.Nothing left r w is cause misfit no_r no_run = absurd (no_run x refl)
@@ -268,11 +321,12 @@ misused_of l words None status note.Write left r w (some, is) cause misfit no_r 
 misused_of l words (Some x) status note.Write left r w is cause misfit no_r no_run = absurd (no_run x refl)
 misused_of l words kept status (note.Text f) left r w is cause misfit no_r no_run = absurd (not_refused l left (λ bytes. AsksFor l bytes (length words) → ⊥) (note.Text f) misfit cause)
 misused_of l words kept status (note.Name f) left r w is cause misfit no_r no_run = absurd (not_refused l left (λ bytes. AsksFor l bytes (length words) → ⊥) (note.Name f) misfit cause)
+misused_of l words kept status (note.Sheet f) left r w is cause misfit no_r no_run = absurd is
 
 kept_run : (command : Option Command) (kept : Option Record) (left : Option (List ℕ)) → IfSome kept (IsRunOf command left) → (x : Record) → kept ≡ Some x → IsRunOf command left x
 kept_run command kept left run x is = subst (λ (k : Option Record). IfSome k (IsRunOf command left)) is run
 
-pub misused : (command : Option Command) (kept : Option Record) (status : ℕ) (n : Note) (left : Option (List ℕ)) (r w : Type 0) → IsStatus kept status n → HasCause command n left r w → IfSome kept (IsRunOf command left) → IsSurelyMisused command left → (r → ⊥) → MayBeMisusedWith command status
+pub misused : (command : Option Command) (kept : Option Record) (status : ℕ) (n : Note) (left : Option (List ℕ)) (r w : Type 0) → IsStatus command kept status n → HasCause command n left r w → IfSome kept (IsRunOf command left) → IsSurelyMisused command left → (r → ⊥) → MayBeMisusedWith command status
 misused None kept status n left r w is cause run misfit no_r = of_none kept status n cause is
 misused (Some (Run ws ls wk p)) kept status n left r w is cause run misfit no_r =
     misused_of 2 ws kept status n left r w is cause misfit no_r (λ x e. let by = kept_run (Some (Run ws ls wk p)) kept left run x e in run_fits 2 ws left x by.program by.words by.takes misfit)
@@ -282,6 +336,7 @@ misused (Some (Keep ws ls wk)) kept status n left r w is cause run misfit no_r =
     misused_of 2 ws kept status n left r w is cause misfit no_r (λ x e. let by = kept_run (Some (Keep ws ls wk)) kept left run x e in run_fits 2 ws left x by.program by.words by.takes misfit)
 misused (Some (Races ws ls)) kept status n left r w is cause run misfit no_r =
     misused_of 2 ws kept status n left r w is cause misfit no_r (λ x e. let by = kept_run (Some (Races ws ls)) kept left run x e in run_fits 2 ws left x by.program by.words by.takes misfit)
+misused (Some Check) kept status n left r w is cause run misfit no_r = absurd misfit
 misused (Some (Load tr wk)) kept status n left r w is cause run misfit no_r = absurd misfit
 
 -- a source that has a run is not refused
@@ -297,8 +352,8 @@ no_misfit : (l : ℕ) (left : Option (List ℕ)) (words : List ℤ) (fault : Not
 no_misfit l None words fault is misfit = is
 no_misfit l (Some bytes) words fault is misfit = let none = misfit.0 in cc
 
-refuses_of : (l : ℕ) (words : List ℤ) (kept : Option Record) (status : ℕ) (n : Note) (left : Option (List ℕ)) (r w : Type 0) → IsStatus kept status n → IsCauseOfRun l words n left r w → (fault : Note) → IsSomeAnd left (λ bytes. refusal l bytes ≡ Some fault) → (r → ⊥)
-    → ((x : Record) → kept ≡ Some x → ⊥) → IsRefusedWith fault status n
+refuses_of : (l : ℕ) (words : List ℤ) (kept : Option Record) (status : ℕ) (n : Note) (left : Option (List ℕ)) (r w : Type 0) → IsStatusOfRun kept status n → IsCauseOfRun l words n left r w → (fault : Note) → IsSomeAnd left (λ bytes. refusal l bytes ≡ Some fault) → (r → ⊥)
+    → ((x : Record) → kept ≡ Some x → ⊥) → IsRefusedWith None fault status n
 refuses_of l words None status note.Nothing left r w is cause fault why no_r no_run = absurd is
 refuses_of l words (Some x) status note.Nothing left r w is cause fault why no_r no_run = absurd (no_run x refl)
 refuses_of l words kept status note.Usage left r w is cause fault why no_r no_run = absurd (no_misfit l left words fault why cause)
@@ -308,20 +363,22 @@ refuses_of l words None status note.Write left r w (some, is) cause fault why no
 refuses_of l words (Some x) status note.Write left r w is cause fault why no_r no_run = absurd (no_run x refl)
 refuses_of l words kept status (note.Text f) left r w (none, is) cause fault why no_r no_run = inl (is, same_fault l left (note.Text f) fault why cause)
 refuses_of l words kept status (note.Name f) left r w (none, is) cause fault why no_r no_run = inl (is, same_fault l left (note.Name f) fault why cause)
+refuses_of l words kept status (note.Sheet f) left r w is cause fault why no_r no_run = absurd is
 
-pub refuses : (command : Option Command) (kept : Option Record) (status : ℕ) (n : Note) (left : Option (List ℕ)) (r w : Type 0) → IsStatus kept status n → HasCause command n left r w → IfSome kept (IsRunOf command left) → (fault : Note) → IsSurelyRefused command left fault → (r → ⊥) → IsRefusedWith fault status n
-refuses None kept status n left r w is cause run fault why no_r = absurd why
-refuses (Some (Run ws ls wk p)) kept status n left r w is cause run fault why no_r =
+pub refuses : (command : Option Command) (kept : Option Record) (status : ℕ) (n : Note) (left old new : Option (List ℕ)) (r w : Type 0) (before after : ℕ → Type 0) → IsStatus command kept status n → HasCause command n left r w → IfSome kept (IsRunOf command left) → TellsBy command left kept status n old new before after → (fault : Note) → IsSurelyRefused command left fault → (r → ⊥) → IsRefusedWith command fault status n
+refuses None kept status n left old new r w before after is cause run told fault why no_r = absurd why
+refuses (Some (Run ws ls wk p)) kept status n left old new r w before after is cause run told fault why no_r =
     refuses_of 2 ws kept status n left r w is cause fault why no_r (λ x e. let by = kept_run (Some (Run ws ls wk p)) kept left run x e in run_accepted 2 left x fault by.program why)
-refuses (Some (Sim ws ls wk sc p)) kept status n left r w is cause run fault why no_r =
+refuses (Some (Sim ws ls wk sc p)) kept status n left old new r w before after is cause run told fault why no_r =
     refuses_of 2 ws kept status n left r w is cause fault why no_r (λ x e. let by = kept_run (Some (Sim ws ls wk sc p)) kept left run x e in run_accepted 2 left x fault by.program why)
-refuses (Some (Keep ws ls wk)) kept status n left r w is cause run fault why no_r =
+refuses (Some (Keep ws ls wk)) kept status n left old new r w before after is cause run told fault why no_r =
     refuses_of 2 ws kept status n left r w is cause fault why no_r (λ x e. let by = kept_run (Some (Keep ws ls wk)) kept left run x e in run_accepted 2 left x fault by.program why)
-refuses (Some (Races ws ls)) kept status n left r w is cause run fault why no_r =
+refuses (Some (Races ws ls)) kept status n left old new r w before after is cause run told fault why no_r =
     refuses_of 2 ws kept status n left r w is cause fault why no_r (λ x e. let by = kept_run (Some (Races ws ls)) kept left run x e in run_accepted 2 left x fault by.program why)
-refuses (Some (Load tr wk)) kept status n left r w is cause run fault why no_r = absurd why
+refuses (Some Check) kept status n left old new r w before after is cause run told fault why no_r = check_refuses status left old new before after n r w is.1 cause told fault why no_r
+refuses (Some (Load tr wk)) kept status n left old new r w before after is cause run told fault why no_r = absurd why
 
-complete_of : (co : Command) (l : ℕ) (words : List ℤ) (kept : Option Record) (status : ℕ) (n : Note) (left : Option (List ℕ)) (r w : Type 0) → IsStatus kept status n → IsCauseOfRun l words n left r w → IsReady co → IfSome kept (IsDoneBy co)
+complete_of : (co : Command) (l : ℕ) (words : List ℤ) (kept : Option Record) (status : ℕ) (n : Note) (left : Option (List ℕ)) (r w : Type 0) → IsStatusOfRun kept status n → IsCauseOfRun l words n left r w → IsReady co → IfSome kept (IsDoneBy co)
     → IsSomeAnd left (λ bytes. (refusal l bytes ≡ None) × AsksFor l bytes (length words)) → (r → ⊥) → (w → ⊥) → MayEndWith (Some co) status
 complete_of co l words None status note.Nothing left r w is cause ready done accepted no_r no_w = absurd is
 complete_of co l words (Some x) status note.Nothing left r w is cause ready done accepted no_r no_w = may_end co x status ready done is
@@ -331,8 +388,9 @@ complete_of co l words kept status note.Read left r w is cause ready done accept
 complete_of co l words kept status note.Write left r w is cause ready done accepted no_r no_w = absurd (no_w cause)
 complete_of co l words kept status (note.Text f) left r w is cause ready done accepted no_r no_w = absurd (not_refused l left (λ bytes. AsksFor l bytes (length words)) (note.Text f) accepted cause)
 complete_of co l words kept status (note.Name f) left r w is cause ready done accepted no_r no_w = absurd (not_refused l left (λ bytes. AsksFor l bytes (length words)) (note.Name f) accepted cause)
+complete_of co l words kept status (note.Sheet f) left r w is cause ready done accepted no_r no_w = absurd is
 
-load_complete : (co : Command) (kept : Option Record) (status : ℕ) (n : Note) (w : Type 0) → IsStatus kept status n → IsCauseOfTelling n w → IsReady co → IfSome kept (IsDoneBy co) → (w → ⊥) → MayEndWith (Some co) status
+load_complete : (co : Command) (kept : Option Record) (status : ℕ) (n : Note) (w : Type 0) → IsStatusOfRun kept status n → IsCauseOfTelling n w → IsReady co → IfSome kept (IsDoneBy co) → (w → ⊥) → MayEndWith (Some co) status
 load_complete co None status note.Nothing w is cause ready done no_w = absurd is
 load_complete co (Some x) status note.Nothing w is cause ready done no_w = may_end co x status ready done is
 load_complete co kept status note.Usage w is cause ready done no_w = absurd cause
@@ -341,13 +399,15 @@ load_complete co kept status note.Read w is cause ready done no_w = absurd cause
 load_complete co kept status note.Write w is cause ready done no_w = absurd (no_w cause)
 load_complete co kept status (note.Text f) w is cause ready done no_w = absurd cause
 load_complete co kept status (note.Name f) w is cause ready done no_w = absurd cause
+load_complete co kept status (note.Sheet f) w is cause ready done no_w = absurd is
 
-pub complete : (command : Option Command) (kept : Option Record) (status : ℕ) (n : Note) (left : Option (List ℕ)) (r w : Type 0) → IsStatus kept status n → HasCause command n left r w → IfSome command IsReady → IfSome kept (IsDoneAs command) → Accepts command left → (FailsToRead command r → ⊥) → (w → ⊥) → MayEndWith command status
+pub complete : (command : Option Command) (kept : Option Record) (status : ℕ) (n : Note) (left : Option (List ℕ)) (r w : Type 0) → IsStatus command kept status n → HasCause command n left r w → IfSome command IsReady → IfSome kept (IsDoneAs command) → Accepts command left → (FailsToRead command r → ⊥) → (w → ⊥) → MayEndWith command status
 complete None kept status n left r w is cause ready done accepted no_r no_w = of_none kept status n cause is
 complete (Some (Run ws ls wk p)) kept status n left r w is cause ready done accepted no_r no_w = complete_of (Run ws ls wk p) 2 ws kept status n left r w is cause ready done accepted no_r no_w
 complete (Some (Sim ws ls wk sc p)) kept status n left r w is cause ready done accepted no_r no_w = complete_of (Sim ws ls wk sc p) 2 ws kept status n left r w is cause ready done accepted no_r no_w
 complete (Some (Keep ws ls wk)) kept status n left r w is cause ready done accepted no_r no_w = complete_of (Keep ws ls wk) 2 ws kept status n left r w is cause ready done accepted no_r no_w
 complete (Some (Races ws ls)) kept status n left r w is cause ready done accepted no_r no_w = complete_of (Races ws ls) 2 ws kept status n left r w is cause ready done accepted no_r no_w
+complete (Some Check) kept status n left r w is cause ready done accepted no_r no_w = check_ends status n left r w is.1 cause no_r no_w
 complete (Some (Load tr wk)) kept status n left r w is cause ready done accepted no_r no_w = load_complete (Load tr wk) kept status n w is cause ready done no_w
 
 -- where a run's status is 0 the machine finished, and the run with the same memory and outputs
@@ -374,17 +434,37 @@ pub written_at : (IsText : Record → List ℕ → Type 0) (r : Record) (status 
 written_at IsText r status old new before after told zero =
     (told.is_text (λ e. cc), subst (λ s. Writes (text_owed (Some r) s told.text) note.Nothing old new) zero told.written)
 
-pub finished : (command : Option Command) (kept : Option Record) (status : ℕ) (n : Note) (left old new : Option (List ℕ)) (before after : ℕ → Type 0) → IsStatus kept status n → IfSome kept (IsRunOf command left) → Tells (IsTextOfCommand command left) kept status n old new before after → status ≡ 0
+finished_run : (command : Option Command) (kept : Option Record) (status : ℕ) (n : Note) (left old new : Option (List ℕ)) (before after : ℕ → Type 0) → IsStatusOfRun kept status n → IfSome kept (IsRunOf command left) → Tells (IsTextOfCommand command left) kept status n old new before after → status ≡ 0
     → IsSomeAnd kept (λ r. WritesEndOfOneMemory command left r old new)
-finished command None status note.Nothing left old new before after is run told zero = absurd is
-finished None (Some r) status note.Nothing left old new before after is run told zero = absurd run
-finished (Some co) (Some r) status note.Nothing left old new before after (inl (same, is)) run told zero =
+finished_run command None status note.Nothing left old new before after is run told zero = absurd is
+finished_run None (Some r) status note.Nothing left old new before after is run told zero = absurd run
+finished_run (Some co) (Some r) status note.Nothing left old new before after (inl (same, is)) run told zero =
     let (is_text, written) = written_at (IsTextOfCommand (Some co) left) r status old new before after told zero in
     of_replay co left r told.text old new (sym zero ∙ is) run.tree same is_text written
-finished (Some co) (Some r) status note.Nothing left old new before after (inr (other, is)) run told zero = cc
-finished command kept status note.Usage left old new before after (none, is) run told zero = cc
-finished command kept status note.Memory left old new before after (none, is) run told zero = cc
-finished command kept status note.Read left old new before after (none, is) run told zero = cc
-finished command kept status note.Write left old new before after (some, is) run told zero = cc
-finished command kept status (note.Text f) left old new before after (none, is) run told zero = cc
-finished command kept status (note.Name f) left old new before after (none, is) run told zero = cc
+finished_run (Some co) (Some r) status note.Nothing left old new before after (inr (other, is)) run told zero = cc
+finished_run command kept status note.Usage left old new before after (none, is) run told zero = cc
+finished_run command kept status note.Memory left old new before after (none, is) run told zero = cc
+finished_run command kept status note.Read left old new before after (none, is) run told zero = cc
+finished_run command kept status note.Write left old new before after (some, is) run told zero = cc
+finished_run command kept status (note.Text f) left old new before after (none, is) run told zero = cc
+finished_run command kept status (note.Name f) left old new before after (none, is) run told zero = cc
+finished_run command kept status (note.Sheet f) left old new before after is run told zero = absurd is
+
+pub finished : (command : Option Command) (kept : Option Record) (status : ℕ) (n : Note) (left old new : Option (List ℕ)) (before after : ℕ → Type 0) → IsStatus command kept status n → IfSome kept (IsRunOf command left) → TellsBy command left kept status n old new before after → status ≡ 0
+    → EndsWell command left kept old new
+finished None kept status n left old new before after is run told zero = finished_run None kept status n left old new before after is run told zero
+finished (Some (Run ws ls wk p)) kept status n left old new before after is run told zero = finished_run (Some (Run ws ls wk p)) kept status n left old new before after is run told zero
+finished (Some (Sim ws ls wk sc p)) kept status n left old new before after is run told zero = finished_run (Some (Sim ws ls wk sc p)) kept status n left old new before after is run told zero
+finished (Some (Load tr wk)) kept status n left old new before after is run told zero = finished_run (Some (Load tr wk)) kept status n left old new before after is run told zero
+finished (Some (Keep ws ls wk)) kept status n left old new before after is run told zero = finished_run (Some (Keep ws ls wk)) kept status n left old new before after is run told zero
+finished (Some (Races ws ls)) kept status n left old new before after is run told zero = finished_run (Some (Races ws ls)) kept status n left old new before after is run told zero
+finished (Some Check) kept status n left old new before after is run told zero = check_sound status left old new before after n is.1 told zero
+
+pub broken : (command : Option Command) (kept : Option Record) (status : ℕ) (n : Note) (left old new : Option (List ℕ)) (before after : ℕ → Type 0) → IsStatus command kept status n → TellsBy command left kept status n old new before after → status ≡ 11 → FindsBroken command left old new
+broken None kept status n left old new before after is told eleven = (of_no_run kept status n is).1 eleven
+broken (Some (Run ws ls wk p)) kept status n left old new before after is told eleven = (of_no_run kept status n is).1 eleven
+broken (Some (Sim ws ls wk sc p)) kept status n left old new before after is told eleven = (of_no_run kept status n is).1 eleven
+broken (Some (Load tr wk)) kept status n left old new before after is told eleven = (of_no_run kept status n is).1 eleven
+broken (Some (Keep ws ls wk)) kept status n left old new before after is told eleven = (of_no_run kept status n is).1 eleven
+broken (Some (Races ws ls)) kept status n left old new before after is told eleven = (of_no_run kept status n is).1 eleven
+broken (Some Check) kept status n left old new before after is told eleven = check_broken status left old new before after n is.1 told eleven

@@ -4,7 +4,7 @@ use Rattle.std.proofs.lemmas.Bool.{cases_lt}
 use Rattle.cw_record.specs.declared.record.Record.{Record}
 use Rattle.cw_record.specs.Records.{IsReplayed}
 use Rattle.cw_words.specs.declared.command.Command.{Command}
-use Rattle.cw_words.specs.declared.command.Command.TheVariants.{Run, Sim, Load, Keep, Races}
+use Rattle.cw_words.specs.declared.command.Command.TheVariants.{Run, Sim, Load, Keep, Races, Check}
 use Rattle.cw_top.specs.declared.outcome.Note.{Note}
 use Rattle.cw_top.specs.Runs.{HasSeveralThreads, IsDoneBy, IsReady}
 use Rattle.cw_top.specs.Written.{Tells}
@@ -14,6 +14,7 @@ sure (Run ws ls w p) r ready done few = elim (cases_lt 1 w) [ inl less ↦ absur
 sure (Load tr w) r ready done few = elim (cases_lt 1 w) [ inl less ↦ absurd (few less) | inr le ↦ (done.one (omega (arith, ready.0, le))).replays ]
 sure (Keep ws ls w) r ready done few = elim (cases_lt 1 w) [ inl less ↦ absurd (few less) | inr le ↦ (done.one (omega (arith, ready.0, le))).replays ]
 sure (Races ws ls) r ready done few = done.replays
+sure Check r ready done few = absurd done
 sure (Sim ws ls w s p) r ready done few = done.replays
 
 -- where nothing is told, and nothing written

@@ -8,4 +8,5 @@ pub mod OneMemory
 pub mod RacesTold
 pub mod Written
 pub mod Spent
+pub mod Audited
 pub mod Outcome

@@ -16,7 +16,7 @@ use Rattle.cw_sheet.specs.Contents.{Contents}
 use Rattle.cw_sheet.specs.SheetText.{sheet_text}
 use Rattle.cw_gen.specs.Load.{load_tree}
 use Rattle.cw_words.specs.declared.command.Command.{Command}
-use Rattle.cw_words.specs.declared.command.Command.TheVariants.{Run, Sim, Load, Keep, Races}
+use Rattle.cw_words.specs.declared.command.Command.TheVariants.{Run, Sim, Load, Keep, Races, Check}
 use Rattle.cw_words.specs.declared.command.ReportVersion.{ReportVersion}
 use Rattle.cw_words.specs.Words.{words_of, limits_of}
 use Rattle.cw_code.specs.Ranges.{default_limits}
@@ -43,14 +43,15 @@ pub record IsSheetText (ws : List ℤ) (ls : Limits) (ds : List Declaration) (me
   pub end : sheet.end ≡ AFinish memory outputs
   pub is_text : text ≡ sheet_text sheet
 
--- The text that a command writes if its run finishes: the outputs and the cells, for a load its summary, or a sheet. Races tell nothing of
--- the end.
+-- The text that a command writes if its run finishes: the outputs and the cells, for a load its summary, or a sheet. Races and
+-- checks tell nothing of the end.
 abbrev pub IsTextOfEnd : Command → List Declaration → (memory outputs : List ℤ) (text : List ℕ) → Type 0
 IsTextOfEnd (Run words limits workers report) source memory outputs text = IsResultText report (finished_text (cells_of source) memory outputs) text
 IsTextOfEnd (Sim words limits workers schedule report) source memory outputs text = IsResultText report (finished_text (cells_of source) memory outputs) text
 IsTextOfEnd (Load transfers workers) source memory outputs text = text ≡ summary_text transfers memory
 IsTextOfEnd (Keep words limits workers) source memory outputs text = IsSheetText words limits source memory outputs text
 IsTextOfEnd (Races words limits) source memory outputs text = Unit {0}
+IsTextOfEnd Check source memory outputs text = Unit {0}
 
 -- One memory, running these declarations, can finish so that the text of its outputs and cells is what was written.
 pub record WritesWhatOneMemoryGives (command : Command) (words : List ℤ) (limits : Limits) (source : List Declaration) (old new : Option (List ℕ)) : Type 0 where
@@ -65,9 +66,10 @@ pub record WritesWhatOneMemoryGives (command : Command) (words : List ℤ) (limi
   pub written : Appends old new text
 
 -- The same of what a command runs: the syntax tree that the bytes of the source spell, if the source tells its bytes; for a load the tree of
--- its own program. Words that are no command write nothing.
+-- its own program. Words that are no command write nothing, and a check runs nothing.
 abbrev pub IsOneMemory : Option Command → (left old new : Option (List ℕ)) → Type 0
 IsOneMemory None left old new = ⊥
 IsOneMemory (Some (Load transfers workers)) left old new = WritesWhatOneMemoryGives (Load transfers workers) [] default_limits (load_tree transfers) old new
+IsOneMemory (Some Check) left old new = Unit {0}
 IsOneMemory (Some c) left old new = IfSome left (λ bytes.
     (source : Source) × (program (newest_language c) bytes ≡ Ok source) × WritesWhatOneMemoryGives c (words_of c) (limits_of c) source.items old new)

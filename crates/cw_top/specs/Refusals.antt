@@ -1,5 +1,5 @@
--- Why a source is refused: for its text's first fault, otherwise for its program's first naming fault. And what a source that is
--- not refused says: its program, and the number of words that it asks for.
+-- Why a source is refused: a program for its text's first fault, otherwise for its first naming fault; a sheet for its text's first fault.
+-- And what a program that is not refused says, and the number of words that it asks for.
 use Rattle.std.specs.Prelude.{◌≡◌, ℕ, ℤ, List, length, Option, Some, None, Result, Ok, Err}
 use Rattle.cw_text.specs.declared.fault.TextFault.{TextFault}
 use Rattle.cw_text.specs.Syntax.{Source}
@@ -8,9 +8,12 @@ use Rattle.cw_strand.specs.Meaning.{MainTakes}
 use Rattle.cw_strand.specs.Names.{naming_fault, Fault}
 use Rattle.cw_code.specs.declared.program.Program.{Program}
 use Rattle.cw_strand.specs.Programs.{IsProgramOf}
+use Rattle.cw_sheet.specs.declared.sheet.SheetFault.{SheetFault}
+use Rattle.cw_sheet.specs.Contents.{Contents}
+use Rattle.cw_sheet.specs.Reading.{sheet_reading}
 use Rattle.cw_words.specs.declared.command.Command.{Command}
 use Rattle.cw_top.specs.declared.outcome.Note.{Note}
-use Rattle.cw_top.specs.declared.outcome.Note.TheVariants.{Text, Name}
+use Rattle.cw_top.specs.declared.outcome.Note.TheVariants.{Text, Name, Sheet}
 
 -- the newest language in which a command reads its source
 abbrev pub newest_language : Command → ℕ
@@ -27,6 +30,14 @@ of_reading (Err f) = Some (Text f)
 -- why these bytes are refused, if they are, and if no language after this one is read
 abbrev pub refusal : (language : ℕ) → List ℕ → Option Note
 refusal language bytes = of_reading (program language bytes)
+
+abbrev pub of_sheet_reading : Result Contents SheetFault → Option Note
+of_sheet_reading (Ok c) = None
+of_sheet_reading (Err f) = Some (Sheet f)
+
+-- why these bytes are refused as a sheet, if they are
+abbrev pub sheet_refusal : List ℕ → Option Note
+sheet_refusal bytes = of_sheet_reading (sheet_reading bytes)
 
 -- The program is the compilation of the tree that these bytes spell.
 abbrev pub Spells : (language : ℕ) → List ℕ → Program → Type 0

@@ -17,7 +17,7 @@ use Rattle.cw_sim.specs.Turns.{ListsWorkers}
 use Rattle.cw_sim.specs.OneWorker.{IsUnrefused}
 use Rattle.cw_pool.specs.Recorded.{IsOfBoard, IsOfOneWorker}
 use Rattle.cw_words.specs.declared.command.Command.{Command}
-use Rattle.cw_words.specs.declared.command.Command.TheVariants.{Run, Sim, Load, Keep, Races}
+use Rattle.cw_words.specs.declared.command.Command.TheVariants.{Run, Sim, Load, Keep, Races, Check}
 use Rattle.cw_gen.specs.Load.{load_tree}
 use Rattle.cw_words.specs.Words.{limits_of, most_transfers, words_of}
 use Rattle.cw_top.specs.Refusals.{Spells, newest_language}
@@ -32,6 +32,12 @@ IsReady (Sim words limits workers schedule report) = (0 < workers) × ListsWorke
 IsReady (Load transfers workers) = (0 < workers) × (1 ≤ transfers) × (transfers ≤ most_transfers)
 IsReady (Keep words limits workers) = (0 < workers) × (0 < limits.strands)
 IsReady (Races words limits) = Unit {0}
+IsReady Check = Unit {0}
+
+-- The command runs a program.
+abbrev pub RunsProgram : Command → Type 0
+RunsProgram Check = ⊥
+RunsProgram c = Unit {0}
 
 -- the command has more than one worker
 abbrev pub HasSeveralWorkers : Option Command → Type 0
@@ -94,13 +100,14 @@ pub record IsOfMoves (workers : ℕ) (schedule : Schedule) (r : Record) : Type 0
   pub one_worker : workers ≡ 1 → IsUnrefused r
   pub depth_first : workers ≡ 1 → HasEnded r.end → IsDepthFirst r
 
--- How a command's run is done: by its number of threads, by the moves of its virtual workers, or depth first.
+-- How a command's run is done: by its number of threads, by the moves of its virtual workers, or depth first. A check does none.
 abbrev pub IsDoneBy : Command → Record → Type 0
 IsDoneBy (Run words limits workers report) r = IsOfThreads workers r
 IsDoneBy (Sim words limits workers schedule report) r = IsOfMoves workers schedule r
 IsDoneBy (Load transfers workers) r = IsOfThreads workers r
 IsDoneBy (Keep words limits workers) r = IsOfThreads workers r
 IsDoneBy (Races words limits) r = IsOfOneWorker r
+IsDoneBy Check r = ⊥
 
 abbrev pub IsDoneAs : Option Command → Record → Type 0
 IsDoneAs command r = IsSomeAnd command (λ c. IsDoneBy c r)

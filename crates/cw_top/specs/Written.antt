@@ -18,7 +18,7 @@ use Rattle.cw_report.specs.Report.{report_text}
 use Rattle.cw_sheet.specs.Contents.{Contents}
 use Rattle.cw_sheet.specs.SheetText.{sheet_text}
 use Rattle.cw_words.specs.declared.command.Command.{Command}
-use Rattle.cw_words.specs.declared.command.Command.TheVariants.{Run, Sim, Load, Keep, Races}
+use Rattle.cw_words.specs.declared.command.Command.TheVariants.{Run, Sim, Load, Keep, Races, Check}
 use Rattle.cw_words.specs.declared.command.ReportVersion.{ReportVersion}
 use Rattle.cw_words.specs.declared.command.ReportVersion.TheVariants.{First, Second}
 use Rattle.cw_top.specs.declared.telling.Telling.{Telling}
@@ -63,13 +63,14 @@ load_text n r = load_text_of n r.program.cells r.tree r.end
 abbrev pub sheet_of_run : Source → Record → Contents
 sheet_of_run source r = record { source = source; words = r.words; limits = r.limits; tree = r.tree; conflicts = r.conflicts; end = r.end }
 
--- what a command writes of its run
+-- what a command writes of its run; a check has none, and what stands here for it is never written
 abbrev pub telling_of : Command → Telling
 telling_of (Run words limits workers report) = Results report
 telling_of (Sim words limits workers schedule report) = Results report
 telling_of (Load transfers workers) = Summary transfers
 telling_of (Keep words limits workers) = Sheet
 telling_of (Races words limits) = RacesIn
+telling_of Check = Results None
 
 -- the text of a run of this syntax tree
 abbrev pub IsTextIn : Telling → Source → Record → List ℕ → Type 0

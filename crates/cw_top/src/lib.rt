@@ -4,9 +4,11 @@
 //! load), `specs/Recorded.antt` of `cw_pool` (who did a run on threads), and here `specs/Refusals.antt` (why a source is refused),
 //! `specs/Reasons.antt` (why there is no run), `specs/Texts.antt` (notes), `specs/Taken.antt` (what was read), `specs/Runs.antt`
 //! (the run that is kept), `specs/OverSource.antt` (what it is over the syntax of its source), `specs/Written.antt` (what was
-//! written), `specs/Spent.antt` (budgets and moves that were spent) and `specs/Outcome.antt` (what a status says).
+//! written), `specs/Spent.antt` (budgets and moves that were spent), `specs/Audited.antt` (what a check says of a sheet) and
+//! `specs/Outcome.antt` (what a status says).
 #![tactic(auto)]
 
+mod checking;
 mod loading;
 mod outcome;
 mod racing;

@@ -20,43 +20,46 @@ pub struct Compiled {
     pub program: Program,
 }
 
-// One more than a text may have.
+// One more than the text of a program may have.
 const MOST_BYTES: usize = 1_048_577;
+
+/// One more than a sheet may have.
+pub const MOST_SHEET_BYTES: usize = 67_108_865;
 
 // The most bytes that one read asks for.
 const ROOM: usize = 8_192;
 
-// Reads more bytes, at most as many as may still be read. Returns their number; 0 is the end.
-fn read_more<S: Source>(source: &mut S, bytes: &mut Vec<u8>) -> Result<usize, Stop>
-    requires { length bytes.old.items < most_bytes }
+// Reads more bytes, up to `most` in all. Returns their number; 0 is the end.
+fn read_more<S: Source>(source: &mut S, bytes: &mut Vec<u8>, most: usize) -> Result<usize, Stop>
+    requires { length bytes.old.items < most }
     ensures later { S.faults source.old ≤ S.faults source.new }
     ensures why { IfErr result (λ s. WhyStopped s (Rose (S.faults source.old) (S.faults source.new))) }
-    ensures taken { TakesAtMost (most_bytes - length bytes.old.items) (S.left source.old) (S.left source.new) }
+    ensures taken { TakesAtMost (most - length bytes.old.items) (S.left source.old) (S.left source.new) }
     ensures given { IfOk result (λ n. GivesOn (S.left source.old) (S.left source.new) bytes.old.items bytes.new.items n) }
-    ensures few { OnOk result (length bytes.new.items ≤ most_bytes) }
+    ensures few { OnOk result (length bytes.new.items ≤ most) }
     ensures end { result ≡ Ok 0 → IsDry (S.left source.old) }
     ensures once { RisesAtMost 1 (S.ends source.old) (S.ends source.new) }
     ensures none { IfOk result (λ n. 0 < n → S.ends source.new ≡ S.ends source.old) }
 {
     let mut buffer = [0u8; ROOM];
-    let room = ROOM.min(MOST_BYTES - bytes.len());
+    let room = ROOM.min(most - bytes.len());
     let count = source.read(&mut buffer[..room])?;
     bytes.extend_from_slice(&buffer[..count])?;
     Ok(count)
 }
 
-// Reads a source up to its end, or only its first 1,048,577 bytes if it has more.
-fn read_all<S: Source>(alloc: Global, source: &mut S) -> Result<Vec<u8>, Stop>
+/// Reads a source up to its end, or only its first `most` bytes if it has more.
+pub fn read_all<S: Source>(alloc: Global, source: &mut S, most: usize) -> Result<Vec<u8>, Stop>
     ensures later { S.faults source.old ≤ S.faults source.new }
     ensures why { IfErr result (λ s. WhyStopped s (Rose (S.faults source.old) (S.faults source.new))) }
-    ensures taken { TakesAtMost most_bytes (S.left source.old) (S.left source.new) }
+    ensures taken { TakesAtMost most (S.left source.old) (S.left source.new) }
     ensures given { IfOk result (λ bytes. Takes (S.left source.old) (S.left source.new) bytes.items) }
-    ensures whole { IfOk result (λ bytes. length bytes.items < most_bytes → RunsDry (S.left source.old) (S.left source.new)) }
+    ensures whole { IfOk result (λ bytes. length bytes.items < most → RunsDry (S.left source.old) (S.left source.new)) }
     ensures once { RisesAtMost 1 (S.ends source.old) (S.ends source.new) }
 {
     let mut bytes = Vec::new(alloc);
-    'pieces: while bytes.len() < MOST_BYTES {
-        let count = read_more(source, &mut bytes)?;
+    'pieces: while bytes.len() < most {
+        let count = read_more(source, &mut bytes, most)?;
         if count == 0 {
             break;
         }
@@ -93,6 +96,6 @@ pub fn program_from<S: Source>(
     ensures its { IfOk result (λ c. IsProgramOf (source_of c.ast).items c.program) }
     ensures compiled { IfOk result (λ c. IsCompiled c.program) }
 {
-    let bytes = read_all(alloc, source)?;
+    let bytes = read_all(alloc, source, MOST_BYTES)?;
     Ok(program_of(alloc, bytes.as_slice(), newest)?)
 }

@@ -1,6 +1,7 @@
 use cw_base::OutOfMemory;
 use cw_compile::NameRefusal;
 use cw_io::Failed;
+use cw_sheet::{SheetFault, SheetRefusal};
 use cw_strand::NameFault;
 use cw_text::{TextFault, TextRefusal};
 use std::alloc::AllocError;
@@ -110,5 +111,49 @@ impl From<Refusal> for NoRun {
 
     fn from(refusal: Refusal) -> Self {
         NoRun::Refused(refusal)
+    }
+}
+
+/// Why no sheet was judged.
+#[derive(Clone, Copy)]
+pub enum NoAudit {
+    OutOfMemory,
+    Stopped(Stop),
+    Refused(SheetFault),
+}
+
+impl From<OutOfMemory> for NoAudit {
+    ghost use Rattle.std.specs.Prelude.{◌≡◌};
+    ghost use Rattle.cw_top.specs.declared.reasons.NoAudit.TheVariants as no_audit;
+
+    ghost from_gives = { λ _ e. e ≡ no_audit.OutOfMemory };
+
+    fn from(_failed: OutOfMemory) -> Self {
+        NoAudit::OutOfMemory
+    }
+}
+
+impl From<Stop> for NoAudit {
+    ghost use Rattle.std.specs.Prelude.{◌≡◌};
+    ghost use Rattle.cw_top.specs.declared.reasons.NoAudit.TheVariants as no_audit;
+
+    ghost from_gives = { λ stop e. e ≡ no_audit.Stopped stop };
+
+    fn from(stop: Stop) -> Self {
+        NoAudit::Stopped(stop)
+    }
+}
+
+impl From<SheetRefusal> for NoAudit {
+    ghost use Rattle.std.specs.Prelude.{◌≡◌};
+    ghost use Rattle.cw_top.specs.Reasons.{of_sheet};
+
+    ghost from_gives = { λ refused e. e ≡ of_sheet refused };
+
+    fn from(refused: SheetRefusal) -> Self {
+        match refused {
+            SheetRefusal::Sheet(fault) => NoAudit::Refused(fault),
+            SheetRefusal::OutOfMemory => NoAudit::OutOfMemory,
+        }
     }
 }

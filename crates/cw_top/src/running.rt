@@ -9,7 +9,7 @@ ghost use Rattle.cw_pool.specs.Recorded.{IsOfOneWorker};
 ghost use Rattle.cw_top.specs.declared.reasons.NoRun.TheVariants.{Misfit};
 ghost use Rattle.cw_top.specs.Outcome.{HasCause};
 ghost use Rattle.cw_top.specs.Reasons.{note_of};
-ghost use Rattle.cw_top.specs.Runs.{HasSeveralThreads, IsDoneBy, IsItsSource, IsOfThreads, IsReady, IsRunOf};
+ghost use Rattle.cw_top.specs.Runs.{HasSeveralThreads, IsDoneBy, IsItsSource, IsOfThreads, IsReady, IsRunOf, RunsProgram};
 ghost use Rattle.cw_top.specs.Taken.{HasRead, RisesAtMost, TakesAtMost, most_ends, most_read};
 ghost use Rattle.cw_words.specs.Words.{limits_of, words_of};
 
@@ -47,7 +47,7 @@ pub fn has_several_threads(command: &Command) -> bool
         Command::Run { workers, .. }
         | Command::Load { workers, .. }
         | Command::Keep { workers, .. } => 1 < *workers,
-        Command::Sim { .. } | Command::Races { .. } => false,
+        Command::Sim { .. } | Command::Races { .. } | Command::Check => false,
     }
 }
 
@@ -104,6 +104,7 @@ fn run_program<R: Threads + Wait + Sync, G: Gate>(
     requires compiled { IsCompiled program }
     requires takes { TakesWords program (length (words_of command)) }
     requires ready { IsReady command }
+    requires runs { RunsProgram command }
     ensures program { IfOk result (λ r. r.program ≡ program) }
     ensures words { IfOk result (λ r. r.words ≡ words_of command) }
     ensures limits { IfOk result (λ r. r.limits ≡ limits_of command) }
@@ -135,6 +136,7 @@ fn run_program<R: Threads + Wait + Sync, G: Gate>(
             workers,
         } => run_on_threads(rt, alloc, program, words, workers, limits, gate),
         Command::Races { words, limits } => run_depth_first(alloc, program, words, limits),
+        Command::Check => unreachable!(),
     }
 }
 
@@ -149,6 +151,7 @@ fn run_command<R: Threads + Wait + Sync, G: Gate>(
     requires compiled { IsCompiled program }
     requires takes { TakesWords program (length (words_of command)) }
     requires ready { IsReady command }
+    requires runs { RunsProgram command }
     ensures program { IfOk result (λ r. r.program ≡ program) }
     ensures words { IfOk result (λ r. r.words ≡ words_of command) }
     ensures limits { IfOk result (λ r. r.limits ≡ limits_of command) }
@@ -169,7 +172,8 @@ fn program_by<S: Source>(
     command: &Command,
     source: &mut S,
 ) -> Result<Compiled, NoRun>
-    requires { IsReady command.now }
+    requires ready { IsReady command.now }
+    requires runs { RunsProgram command.now }
     ensures later { S.faults source.old ≤ S.faults source.new }
     ensures why { IfErr result (λ n. HasCause (Some command.now) (note_of n) (S.left source.old) (Rose (S.faults source.old) (S.faults source.new)) ⊥) }
     ensures fits { IsErrOf result Misfit → ⊥ }
@@ -184,6 +188,7 @@ fn program_by<S: Source>(
         Command::Load { transfers, .. } => Ok(compiled_load(alloc, *transfers)?),
         Command::Run { .. } | Command::Sim { .. } | Command::Keep { .. } | Command::Races { .. } =>
             program_from(alloc, source, NEWEST),
+        Command::Check => unreachable!(),
     }
 }
 
@@ -195,7 +200,8 @@ pub fn run_of<R: Threads + Wait + Sync, S: Source, G: Gate>(
     source: &mut S,
     gate: &G,
 ) -> Result<Ran, NoRun>
-    requires { IsReady command }
+    requires ready { IsReady command }
+    requires runs { RunsProgram command }
     ensures later { S.faults source.old ≤ S.faults source.new }
     ensures why { IfErr result (λ n. HasCause (Some command) (note_of n) (S.left source.old) (Rose (S.faults source.old) (S.faults source.new)) ⊥) }
     ensures taken { TakesAtMost (most_read (Some command)) (S.left source.old) (S.left source.new) }

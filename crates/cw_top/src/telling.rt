@@ -10,7 +10,7 @@ ghost use Rattle.cw_report.specs.Report.{IsVersion};
 ghost use Rattle.cw_sheet.specs.SheetText.{sheet_text};
 ghost use Rattle.cw_top.specs.declared.reasons.NoRun.TheVariants.{Misfit};
 ghost use Rattle.cw_top.specs.declared.telling.Telling.TheVariants.{Races};
-ghost use Rattle.cw_top.specs.Outcome.{IsCauseOfTelling, IsStatus, status_of_end};
+ghost use Rattle.cw_top.specs.Outcome.{IsCauseOfTelling, IsStatusOfRun, status_of_end};
 ghost use Rattle.cw_top.specs.Reasons.{note_of};
 ghost use Rattle.cw_top.specs.Written.{IsTextIn, StillTells, Tells, Writes, load_text, sheet_of_run, text_by, text_owed, version_number};
 
@@ -161,7 +161,7 @@ fn with_text(alloc: Global, ran: Ran, telling: Telling) -> Result<Told, OutOfMem
 
 /// Returns the reply if there is no run.
 pub fn without_run(why: NoRun) -> Reply
-    ensures status { IsStatus result.kept result.status result.note }
+    ensures status { IsStatusOfRun result.kept result.status result.note }
     ensures note { result.note ≡ note_of why }
     ensures misfit { result.status ≡ 2 → why ≡ Misfit }
     ensures none { result.kept ≡ None }
@@ -185,7 +185,7 @@ fn write_reply<K: Sink>(told: Told, sink: &mut K) -> Reply
     requires { IsReplayed told.run }
     ensures later { K.faults sink.old ≤ K.faults sink.new }
     ensures kept { IfSome result.kept (λ r. r ≡ told.run) }
-    ensures status { IsStatus result.kept result.status result.note }
+    ensures status { IsStatusOfRun result.kept result.status result.note }
     ensures cause { IsCauseOfTelling result.note (Rose (K.faults sink.old) (K.faults sink.new)) }
     ensures written { Writes (text_owed result.kept result.status told.text.items) result.note (K.written sink.old) (K.written sink.new) }
     ensures tells { (result.status ≡ 4 → ⊥) → StillTells (text_owed result.kept result.status told.text.items) (K.tells_for sink.old) (K.tells_for sink.new) (K.written sink.old) (K.written sink.new) }
@@ -212,7 +212,7 @@ fn tell_reply<K: Sink>(alloc: Global, ran: Ran, telling: Telling, sink: &mut K) 
     requires numbered { IsNumberedDepthFirst ran.run.tree }
     ensures later { K.faults sink.old ≤ K.faults sink.new }
     ensures kept { IfSome result.kept (λ r. r ≡ ran.run) }
-    ensures status { IsStatus result.kept result.status result.note }
+    ensures status { IsStatusOfRun result.kept result.status result.note }
     ensures cause { IsCauseOfTelling result.note (Rose (K.faults sink.old) (K.faults sink.new)) }
     ensures written { Tells (IsTextIn telling (source_of ran.ast)) result.kept result.status result.note (K.written sink.old) (K.written sink.new) (K.tells_for sink.old) (K.tells_for sink.new) }
 {
@@ -251,7 +251,7 @@ pub fn reply_to<K: Sink>(
     requires numbered { IsNumberedDepthFirst ran.run.tree }
     ensures later { K.faults sink.old ≤ K.faults sink.new }
     ensures kept { IfSome result.kept (λ r. r ≡ ran.run) }
-    ensures status { IsStatus result.kept result.status result.note }
+    ensures status { IsStatusOfRun result.kept result.status result.note }
     ensures cause { IsCauseOfTelling result.note (Rose (K.faults sink.old) (K.faults sink.new)) }
     ensures written { Tells (IsTextIn telling (source_of ran.ast)) result.kept result.status result.note (K.written sink.old) (K.written sink.new) (K.tells_for sink.old) (K.tells_for sink.new) }
 {

@@ -1,8 +1,9 @@
 ghost use Rattle.std.specs.Prelude.{◌≡◌, IfOk, string_bytes};
-ghost use Rattle.cw_top.specs.Texts.{at_line, name_fault_name, note_text as text_of_note, text_fault_name};
+ghost use Rattle.cw_top.specs.Texts.{at_line, name_fault_name, note_text as text_of_note, sheet_fault_name, text_fault_name};
 
 use crate::Note;
 use cw_base::OutOfMemory;
+use cw_sheet::SheetKind;
 use cw_strand::NameKind;
 use cw_text::TextKind;
 use std::alloc::Global;
@@ -36,6 +37,19 @@ fn name_fault_name(kind: NameKind) -> &'static str
     }
 }
 
+fn sheet_fault_name(kind: SheetKind) -> &'static str
+    ensures { result.now ≡ sheet_fault_name kind }
+{
+    match kind {
+        SheetKind::NotUtf8 => "NotUtf8",
+        SheetKind::TooLong => "TooLong",
+        SheetKind::Unexpected => "Unexpected",
+        SheetKind::BadNumber => "BadNumber",
+        SheetKind::BadTree => "BadTree",
+        SheetKind::BadSource => "BadSource",
+    }
+}
+
 fn at_line(alloc: Global, line: u32, kind: &str) -> Result<String, OutOfMemory>
     ensures { IfOk result (λ text. string_bytes text ≡ at_line line kind.now) }
 {
@@ -53,6 +67,7 @@ fn note_string(alloc: Global, note: &Note) -> Result<String, OutOfMemory>
         Note::Write => Ok(String::from_str(alloc, "cwstm: write fault\n")?),
         Note::Text(fault) => at_line(alloc, fault.line, text_fault_name(fault.kind)),
         Note::Name(fault) => at_line(alloc, fault.line, name_fault_name(fault.kind)),
+        Note::Sheet(fault) => at_line(alloc, fault.line, sheet_fault_name(fault.kind)),
     }
 }
 

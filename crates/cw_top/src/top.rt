@@ -3,15 +3,17 @@ ghost use Rattle.cw_io.specs.Outside.{Appends, TakesNothing, Rose};
 ghost use Rattle.cw_record.specs.Records.{IsReplayed};
 ghost use Rattle.cw_top.specs.declared.outcome.Note.{Note};
 ghost use Rattle.cw_top.specs.declared.outcome.Note.TheVariants.{Nothing};
-ghost use Rattle.cw_top.specs.Outcome.{FailsToRead, HasCause, IsMisused, IsRefusedWith, IsStatus, IsSurelyMisused, IsSurelyRefused, MayBeMisusedWith, MayEndWith};
+ghost use Rattle.cw_top.specs.Audited.{FindsBroken, EndsWell, TellsBy};
+ghost use Rattle.cw_top.specs.Outcome.{FailsToRead, HasCause, IsMisused, IsRefusedWith, IsStatus, IsStatusOfRun, IsSurelyMisused, IsSurelyRefused, MayBeMisusedWith, MayEndWith};
 ghost use Rattle.cw_top.specs.OneMemory.{IsOneMemory};
 ghost use Rattle.cw_top.specs.OverSource.{IsRunOfSource};
-ghost use Rattle.cw_top.specs.Runs.{HasSeveralThreads, HasSeveralWorkers, IsDoneAs, IsDoneBy, IsReady, IsRunOf};
+ghost use Rattle.cw_top.specs.Runs.{HasSeveralThreads, HasSeveralWorkers, IsDoneAs, IsDoneBy, IsReady, IsRunOf, RunsProgram};
 ghost use Rattle.cw_top.specs.Spent.{HasSpentMoves, IsSpentBy, IsSpentOn};
-ghost use Rattle.cw_top.specs.Taken.{Accepts, IsRefusedFor, HasRead, RisesAtMost, TakesAtMost, most_ends, most_read};
-ghost use Rattle.cw_top.specs.Written.{IsTextBy, IsTextOfCommand, Tells, WritesEndOfOneMemory, telling_of};
+ghost use Rattle.cw_top.specs.Taken.{Accepts, HasAnswered, HasRead, IsRefusedFor, IsUnreadFor, RisesAtMost, TakesAtMost, most_ends, most_read};
+ghost use Rattle.cw_top.specs.Written.{IsTextBy, Tells, telling_of};
 ghost use Rattle.cw_words.specs.Words.{command_in};
 
+use crate::checking::check_source;
 use crate::reasons::NoRun;
 use crate::running::{has_several_threads, run_of};
 use crate::telling::{Telling, reply_to, without_run};
@@ -24,6 +26,7 @@ use std::thread::Threads;
 
 // Returns what a command writes of its run.
 fn telling_of(command: &Command) -> Telling
+    requires { RunsProgram command.now }
     ensures { result ≡ telling_of command.now }
 {
     match command {
@@ -35,11 +38,12 @@ fn telling_of(command: &Command) -> Telling
         },
         Command::Keep { .. } => Telling::Sheet,
         Command::Races { .. } => Telling::Races,
+        Command::Check => unreachable!(),
     }
 }
 
-// Runs a command, and writes its text.
-fn do_command<R: Threads + Wait + Sync, S: Source, K: Sink, G: Gate>(
+// Runs the program of a command, and writes its text.
+fn do_run<R: Threads + Wait + Sync, S: Source, K: Sink, G: Gate>(
     rt: &R,
     alloc: Global,
     command: Command,
@@ -48,9 +52,10 @@ fn do_command<R: Threads + Wait + Sync, S: Source, K: Sink, G: Gate>(
     gate: &G,
 ) -> Reply
     requires ready { IsReady command }
+    requires runs { RunsProgram command }
     ensures read_later { S.faults source.old ≤ S.faults source.new }
     ensures write_later { K.faults sink.old ≤ K.faults sink.new }
-    ensures status { IsStatus result.kept result.status result.note }
+    ensures status { IsStatusOfRun result.kept result.status result.note }
     ensures cause { HasCause (Some command) result.note (S.left source.old) (Rose (S.faults source.old) (S.faults source.new)) (Rose (K.faults sink.old) (K.faults sink.new)) }
     ensures taken { TakesAtMost (most_read (Some command)) (S.left source.old) (S.left source.new) }
     ensures whole { OnSome result.kept (HasRead (Some command) (S.left source.old) (S.left source.new)) }
@@ -68,6 +73,35 @@ fn do_command<R: Threads + Wait + Sync, S: Source, K: Sink, G: Gate>(
     }
 }
 
+// Does what a command asks for.
+fn do_command<R: Threads + Wait + Sync, S: Source, K: Sink, G: Gate>(
+    rt: &R,
+    alloc: Global,
+    command: Command,
+    source: &mut S,
+    sink: &mut K,
+    gate: &G,
+) -> Reply
+    requires ready { IsReady command }
+    ensures read_later { S.faults source.old ≤ S.faults source.new }
+    ensures write_later { K.faults sink.old ≤ K.faults sink.new }
+    ensures status { IsStatus (Some command) result.kept result.status result.note }
+    ensures cause { HasCause (Some command) result.note (S.left source.old) (Rose (S.faults source.old) (S.faults source.new)) (Rose (K.faults sink.old) (K.faults sink.new)) }
+    ensures taken { TakesAtMost (most_read (Some command)) (S.left source.old) (S.left source.new) }
+    ensures whole { OnSome result.kept (HasRead (Some command) (S.left source.old) (S.left source.new)) }
+    ensures judged { result.status ≡ 2 → HasRead (Some command) (S.left source.old) (S.left source.new) }
+    ensures answered { HasAnswered (Some command) result.note → HasRead (Some command) (S.left source.old) (S.left source.new) }
+    ensures once { RisesAtMost (most_ends (Some command)) (S.ends source.old) (S.ends source.new) }
+    ensures run { IfSome result.kept (IsRunOf (Some command) (S.left source.old)) }
+    ensures done { IfSome result.kept (IsDoneBy command) }
+    ensures written { TellsBy (Some command) (S.left source.old) result.kept result.status result.note (K.written sink.old) (K.written sink.new) (K.tells_for sink.old) (K.tells_for sink.new) }
+{
+    match command {
+        Command::Check => check_source(alloc, source, sink),
+        _ => do_run(rt, alloc, command, source, sink, gate),
+    }
+}
+
 // Does all that the top call does, once the words are read.
 fn answer<R: Threads + Wait + Sync, S: Source, K: Sink, G: Gate>(
     rt: &R,
@@ -80,15 +114,16 @@ fn answer<R: Threads + Wait + Sync, S: Source, K: Sink, G: Gate>(
     requires ready { IfSome command IsReady }
     ensures read_later { S.faults source.old ≤ S.faults source.new }
     ensures write_later { K.faults sink.old ≤ K.faults sink.new }
-    ensures status { IsStatus result.kept result.status result.note }
+    ensures status { IsStatus command result.kept result.status result.note }
     ensures cause { HasCause command result.note (S.left source.old) (Rose (S.faults source.old) (S.faults source.new)) (Rose (K.faults sink.old) (K.faults sink.new)) }
     ensures taken { TakesAtMost (most_read command) (S.left source.old) (S.left source.new) }
     ensures whole { OnSome result.kept (HasRead command (S.left source.old) (S.left source.new)) }
     ensures judged { result.status ≡ 2 → OnSome command (HasRead command (S.left source.old) (S.left source.new)) }
+    ensures answered { HasAnswered command result.note → HasRead command (S.left source.old) (S.left source.new) }
     ensures once { RisesAtMost (most_ends command) (S.ends source.old) (S.ends source.new) }
     ensures run { IfSome result.kept (IsRunOf command (S.left source.old)) }
     ensures done { IfSome result.kept (IsDoneAs command) }
-    ensures written { Tells (IsTextOfCommand command (S.left source.old)) result.kept result.status result.note (K.written sink.old) (K.written sink.new) (K.tells_for sink.old) (K.tells_for sink.new) }
+    ensures written { TellsBy command (S.left source.old) result.kept result.status result.note (K.written sink.old) (K.written sink.new) (K.tells_for sink.old) (K.tells_for sink.new) }
 {
     match command {
         None => Reply {
@@ -107,13 +142,14 @@ fn answer<R: Threads + Wait + Sync, S: Source, K: Sink, G: Gate>(
 /// options `--fuel`, `--size`, `--aborts` and `--strands`; `sim` also has `--moves`, and `--schedule` or `--seed`. `load N` reads
 /// nothing. It runs the program of N transfers (`load_program`), from 1 to 20,000, as `run` does with the default limits, and
 /// writes N and the sum of all cells. Its one option is `--workers`. `keep` runs as `run` does, without a report, and writes the whole
-/// run as a record sheet (`sheet_text`).
+/// run as a record sheet (`sheet_text`). `check` has neither options nor words. It reads such a sheet, runs nothing, and writes `sound` or
+/// `broken PART` (`audit`).
 ///
 /// A run of several threads is written only once one memory has done the same in its order; status 8 says that it did not. Each of
 /// these threads calls the gate before it looks for a task of another one, and before each try of a begin, an access or a commit.
 ///
 /// The statuses are those of `Reply`. At most 1,048,577 bytes are read, one more than a text may have, and never more are asked
-/// for. Errors are looked for in this order: words, read, text, names, number of words, run, write; memory may run out
+/// for; of a sheet at most 67,108,865. Errors are looked for in this order: words, read, text, names, number of words, run, write; memory may run out
 /// anywhere.
 pub fn cwstm<R: Threads + Wait + Sync, S: Source, K: Sink, G: Gate>(
     rt: &R,
@@ -123,8 +159,8 @@ pub fn cwstm<R: Threads + Wait + Sync, S: Source, K: Sink, G: Gate>(
     sink: &mut K,
     gate: &G,
 ) -> Reply
-    // The status is that of the run that is kept. Without a run it is that of the note.
-    ensures status { IsStatus result.kept result.status result.note }
+    // The status is that of the run that is kept. Without a run it is that of the note. A check keeps no run.
+    ensures status { IsStatus (command_in words.now) result.kept result.status result.note }
 
     // Each answer has its cause, by the command.
     ensures cause { HasCause (command_in words.now) result.note (S.left source.old) (Rose (S.faults source.old) (S.faults source.new)) (Rose (K.faults sink.old) (K.faults sink.new)) }
@@ -138,10 +174,12 @@ pub fn cwstm<R: Threads + Wait + Sync, S: Source, K: Sink, G: Gate>(
     ensures read_fault { result.status ≡ 3 → Rose (S.faults source.old) (S.faults source.new) }
     ensures write_fault { result.status ≡ 4 → Rose (K.faults sink.old) (K.faults sink.new) }
     ensures refused { result.status ≡ 5 → IsRefusedFor (command_in words.now) result.note (S.left source.old) }
+    ensures unreadable { result.status ≡ 10 → IsUnreadFor (command_in words.now) result.note (S.left source.old) }
 
-    // A source that is refused gives status 5 and its first fault, unless a read fails. Only status 1 may come before it.
+    // A source that is refused gives status 5, or 10 for a sheet, and its first fault, unless a read fails. Only status 1 may come before
+    // it.
     ensures refuses { (fault : Note) → IsSurelyRefused (command_in words.now) (S.left source.old) fault
-        → (Rose (S.faults source.old) (S.faults source.new) → ⊥) → IsRefusedWith fault result.status result.note }
+        → (Rose (S.faults source.old) (S.faults source.new) → ⊥) → IsRefusedWith (command_in words.now) fault result.status result.note }
     ensures complete { Accepts (command_in words.now) (S.left source.old)
         → (FailsToRead (command_in words.now) (Rose (S.faults source.old) (S.faults source.new)) → ⊥) → (Rose (K.faults sink.old) (K.faults sink.new) → ⊥)
         → MayEndWith (command_in words.now) result.status }
@@ -164,8 +202,12 @@ pub fn cwstm<R: Threads + Wait + Sync, S: Source, K: Sink, G: Gate>(
     ensures silent { result.status ≡ 8 → (result.note ≡ Nothing) × Appends (K.written sink.old) (K.written sink.new) [] }
     ensures threads { result.status ≡ 8 → HasSeveralThreads (command_in words.now) }
 
-    // With status 0 the text of what one memory comes to was written.
-    ensures finished { result.status ≡ 0 → IsSomeAnd result.kept (λ r. WritesEndOfOneMemory (command_in words.now) (S.left source.old) r (K.written sink.old) (K.written sink.new)) }
+    // With status 0 the text of what one memory comes to was written; for a check, that the sheet is sound, and it is.
+    ensures finished { result.status ≡ 0 → EndsWell (command_in words.now) (S.left source.old) result.kept (K.written sink.old) (K.written sink.new) }
+
+    // Status 11 is that of a check. The first part of the sheet that is broken was written.
+    ensures broken { result.status ≡ 11 → FindsBroken (command_in words.now) (S.left source.old) (K.written sink.old) (K.written sink.new) }
+    ensures answered { HasAnswered (command_in words.now) result.note → HasRead (command_in words.now) (S.left source.old) (S.left source.new) }
 
     // The same without a word of records. If the source tells its bytes and the sink what it got, there is an order of picks under which one
     // memory, running the strands of the syntax tree that the bytes spell, ends finished, and what was written is the text of its outputs and
@@ -191,9 +233,9 @@ pub fn cwstm<R: Threads + Wait + Sync, S: Source, K: Sink, G: Gate>(
     // nothing.
     ensures once { RisesAtMost (most_ends (command_in words.now)) (S.ends source.old) (S.ends source.new) }
 
-    // The owed text was written, or a front of it if a write failed; nothing, if none is owed. Unless a write failed, a sink that goes
+    // The owed text was written, or a front of it if a write failed; nothing, if none is owed. A check owes its answer. Unless a write failed, a sink that goes
     // on telling for at least as many bytes as the text has still tells, and goes on for the rest.
-    ensures written { Tells (IsTextOfCommand (command_in words.now) (S.left source.old)) result.kept result.status result.note (K.written sink.old) (K.written sink.new) (K.tells_for sink.old) (K.tells_for sink.new) }
+    ensures written { TellsBy (command_in words.now) (S.left source.old) result.kept result.status result.note (K.written sink.old) (K.written sink.new) (K.tells_for sink.old) (K.tells_for sink.new) }
 
     // Counts of faults never fall.
     ensures read_later { S.faults source.old ≤ S.faults source.new }

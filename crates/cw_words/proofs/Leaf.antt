@@ -14,7 +14,7 @@ use Rattle.clap.specs.Takes.{is_given}
 use Rattle.clap.specs.Walk.{Names, Walk, finished, has_row, idle, nothing_held, rows_after, settled, walk, walk_from, walked, with_default}
 use Rattle.clap.specs.Faults.{check_fault, default_fault, defaults_fault, given_default_fault, level_fault, settle_fault, walk_fault}
 use Rattle.cw_words.specs.Options.{given}
-use Rattle.cw_words.specs.Words.{keep_options, load_options, races_options, run_options, sim_options}
+use Rattle.cw_words.specs.Words.{check_options, keep_options, load_options, races_options, run_options, sim_options}
 use Rattle.cw_words.specs.Shapes.{built_option, built_word, end_from, fault_from, fine, has_no_odd, is_known, judged, leaf, leaf_rules, rows_from, walk_at}
 use Rattle.std.proofs.Common.{inl, inr, ◌⊎◌}
 use Rattle.std.specs.Prelude.{option_and_then}
@@ -93,7 +93,7 @@ abbrev pub cli_top : Shape
 cli_top = record (new_shape (codes "cwstm")) { is_leaf = false; no_binary_name = true; disable_help_flag = true; disable_help_subcommand = true; is_built = true }
 
 abbrev pub cli_built : App
-cli_built = record { top = cli_top; subs = leaf (codes "run") run_options ∷ leaf (codes "sim") sim_options ∷ leaf (codes "load") load_options ∷ leaf (codes "keep") keep_options ∷ leaf (codes "races") races_options ∷ [] }
+cli_built = record { top = cli_top; subs = leaf (codes "run") run_options ∷ leaf (codes "sim") sim_options ∷ leaf (codes "load") load_options ∷ leaf (codes "keep") keep_options ∷ leaf (codes "races") races_options ∷ leaf (codes "check") check_options ∷ [] }
 
 pub cli_is_built : built cli ≡ cli_built
 cli_is_built = refl
@@ -157,6 +157,14 @@ races_walk_fault : (ws : List Text) → walk_fault cli_top names (walk_from noth
 unfolding walked walk_fault
 races_walk_fault ws = no_fault (codes "races") [] ws
 
+check_walk : (ws : List Text) → walk [] names nothing_held (codes "check" ∷ ws) ≡ stopped_at (codes "check") ws
+unfolding walked
+check_walk ws = stays_stopped (codes "check") [] ws
+
+check_walk_fault : (ws : List Text) → walk_fault cli_top names (walk_from nothing_held) (codes "check" ∷ ws) ≡ []
+unfolding walked walk_fault
+check_walk_fault ws = no_fault (codes "check") [] ws
+
 pub sim_rows : (ws : List Text) → subcommand_of cli (codes "sim" ∷ ws) ≡ Some (codes "sim", rows_after (leaf_rules sim_options) [] ws)
 sim_rows ws = ap (λ w. Rattle.clap.specs.Simple.entered cli_built w.stopped) (sim_walk ws)
 
@@ -168,6 +176,9 @@ keep_rows ws = ap (λ w. Rattle.clap.specs.Simple.entered cli_built w.stopped) (
 
 pub races_rows : (ws : List Text) → subcommand_of cli (codes "races" ∷ ws) ≡ Some (codes "races", rows_after (leaf_rules races_options) [] ws)
 races_rows ws = ap (λ w. Rattle.clap.specs.Simple.entered cli_built w.stopped) (races_walk ws)
+
+pub check_rows : (ws : List Text) → subcommand_of cli (codes "check" ∷ ws) ≡ Some (codes "check", rows_after (leaf_rules check_options) [] ws)
+check_rows ws = ap (λ w. Rattle.clap.specs.Simple.entered cli_built w.stopped) (check_walk ws)
 
 pub run_rows : (ws : List Text) → subcommand_of cli (codes "run" ∷ ws) ≡ Some (codes "run", rows_after (leaf_rules run_options) [] ws)
 run_rows ws = ap (λ w. Rattle.clap.specs.Simple.entered cli_built w.stopped) (run_walk ws)
@@ -205,13 +216,17 @@ pub races_fault : (ws : List Text) → fault_of cli (codes "races" ∷ ws) ≡ l
 unfolding defaults_fault
 races_fault ws = ap (λ k. whole k (walk [] names nothing_held (codes "races" ∷ ws))) (races_walk_fault ws) ∙ ap (whole []) (races_walk ws) ∙ or_nothing (level_fault (leaf (codes "races") races_options) [] nothing_held ws false [])
 
+pub check_command_fault : (ws : List Text) → fault_of cli (codes "check" ∷ ws) ≡ level_fault (leaf (codes "check") check_options) [] nothing_held ws false []
+unfolding defaults_fault
+check_command_fault ws = ap (λ k. whole k (walk [] names nothing_held (codes "check" ∷ ws))) (check_walk_fault ws) ∙ ap (whole []) (check_walk ws) ∙ or_nothing (level_fault (leaf (codes "check") check_options) [] nothing_held ws false [])
+
 -- ## A first word that is no command
 
 pub no_words : subcommand_of cli [] ≡ None
 no_words = refl
 
 abbrev pub is_command : Text → Bool
-is_command w = bytes_eq (codes "run") w || (bytes_eq (codes "sim") w || (bytes_eq (codes "load") w || (bytes_eq (codes "keep") w || bytes_eq (codes "races") w)))
+is_command w = bytes_eq (codes "run") w || (bytes_eq (codes "sim") w || (bytes_eq (codes "load") w || (bytes_eq (codes "keep") w || (bytes_eq (codes "races") w || bytes_eq (codes "check") w))))
 
 -- behind `--` there is no subcommand
 ends_walk : (ws : List Text) (h : Walk) → h.is_trailing ≡ true → h.stopped ≡ None → (fold (walked [] names) h ws).stopped ≡ None
@@ -219,17 +234,17 @@ unfolding walked
 ends_walk [] h t s = s
 ends_walk (w ∷ ws) h t s = ends_walk ws (walked [] names h w) (rw (s, t) refl) (rw (s, t) refl)
 
-top_plain : (w : Text) → bytes_eq (codes "run") w ≡ false → bytes_eq (codes "sim") w ≡ false → bytes_eq (codes "load") w ≡ false → bytes_eq (codes "keep") w ≡ false → bytes_eq (codes "races") w ≡ false → bytes_eq w (45 ∷ 45 ∷ []) ≡ false → long_of w ≡ None → short_of w ≡ None
+top_plain : (w : Text) → bytes_eq (codes "run") w ≡ false → bytes_eq (codes "sim") w ≡ false → bytes_eq (codes "load") w ≡ false → bytes_eq (codes "keep") w ≡ false → bytes_eq (codes "races") w ≡ false → bytes_eq (codes "check") w ≡ false → bytes_eq w (45 ∷ 45 ∷ []) ≡ false → long_of w ≡ None → short_of w ≡ None
     → fine (turn_fault cli_top names (walk_from nothing_held) w) ≡ false
-top_plain w a b c d e e1 e2 e3 = rw (a, b, c, d, e, e1, e2, e3) refl
+top_plain w a b c d e f e1 e2 e3 = rw (a, b, c, d, e, f, e1, e2, e3) refl
 
 top_long : (e : ℕ) (es : Text) → fine (turn_fault cli_top names (walk_from nothing_held) (45 ∷ 45 ∷ e ∷ es)) ≡ false
 top_long e es = refl
 
-top_short : (w : Text) (f : ℕ) (fs : Text) (x : ℕ) → bytes_eq (codes "run") w ≡ false → bytes_eq (codes "sim") w ≡ false → bytes_eq (codes "load") w ≡ false → bytes_eq (codes "keep") w ≡ false → bytes_eq (codes "races") w ≡ false → bytes_eq w (45 ∷ 45 ∷ []) ≡ false → long_of w ≡ None → short_of w ≡ Some (f ∷ fs)
+top_short : (w : Text) (f : ℕ) (fs : Text) (x : ℕ) → bytes_eq (codes "run") w ≡ false → bytes_eq (codes "sim") w ≡ false → bytes_eq (codes "load") w ≡ false → bytes_eq (codes "keep") w ≡ false → bytes_eq (codes "races") w ≡ false → bytes_eq (codes "check") w ≡ false → bytes_eq w (45 ∷ 45 ∷ []) ≡ false → long_of w ≡ None → short_of w ≡ Some (f ∷ fs)
     → slice_get (chars (f ∷ fs)) 0 ≡ Some x → fine (turn_fault cli_top names (walk_from nothing_held) w) ≡ false
 unfolding flags_fault
-top_short w f fs x a b c d e e1 e2 e3 e4 = rw (a, b, c, d, e, e1, e2, e3, e4) refl
+top_short w f fs x a b c d e g e1 e2 e3 e4 = rw (a, b, c, d, e, g, e1, e2, e3, e4) refl
 
 -- ## The first word
 
@@ -252,21 +267,21 @@ only_ends : (ws : List Text) → subcommand_of cli ((45 ∷ 45 ∷ []) ∷ ws) �
 unfolding walked
 only_ends ws = ap (Rattle.clap.specs.Simple.entered cli_built) (ends_walk ws (record (walk_from nothing_held) { is_trailing = true }) refl refl)
 
-pub other_first : (ws : List Text) (w : Text) → bytes_eq (codes "run") w ≡ false → bytes_eq (codes "sim") w ≡ false → bytes_eq (codes "load") w ≡ false → bytes_eq (codes "keep") w ≡ false → bytes_eq (codes "races") w ≡ false → is_odd w ≡ false → Enters w ws
+pub other_first : (ws : List Text) (w : Text) → bytes_eq (codes "run") w ≡ false → bytes_eq (codes "sim") w ≡ false → bytes_eq (codes "load") w ≡ false → bytes_eq (codes "keep") w ≡ false → bytes_eq (codes "races") w ≡ false → bytes_eq (codes "check") w ≡ false → is_odd w ≡ false → Enters w ws
 other_first ws w =
-    word_cases (λ x. bytes_eq (codes "run") x ≡ false → bytes_eq (codes "sim") x ≡ false → bytes_eq (codes "load") x ≡ false → bytes_eq (codes "keep") x ≡ false → bytes_eq (codes "races") x ≡ false → is_odd x ≡ false → Enters x ws)
-    (λ a b c k r o. plain [] empty_is_plain a b c k r)
-    (λ x xs i a b c k r o. plain (x ∷ xs) (other_is_plain x xs i) a b c k r)
-    (λ a b c k r o. absurd (true≢false (sym odd_one ∙ o)))
-    (λ d ds i a b c k r o.
+    word_cases (λ x. bytes_eq (codes "run") x ≡ false → bytes_eq (codes "sim") x ≡ false → bytes_eq (codes "load") x ≡ false → bytes_eq (codes "keep") x ≡ false → bytes_eq (codes "races") x ≡ false → bytes_eq (codes "check") x ≡ false → is_odd x ≡ false → Enters x ws)
+    (λ a b c k r q o. plain [] empty_is_plain a b c k r q)
+    (λ x xs i a b c k r q o. plain (x ∷ xs) (other_is_plain x xs i) a b c k r q)
+    (λ a b c k r q o. absurd (true≢false (sym odd_one ∙ o)))
+    (λ d ds i a b c k r q o.
     let some = first_char (chars (d ∷ ds)) (sym (ap (λ t. not t && is_empty (chars (d ∷ ds))) (no_option d ds i)) ∙ o) in
-    inl (first_fails (45 ∷ d ∷ ds) ws (top_short (45 ∷ d ∷ ds) d ds some.0 a b c k r
+    inl (first_fails (45 ∷ d ∷ ds) ws (top_short (45 ∷ d ∷ ds) d ds some.0 a b c k r q
     (ap (λ t. t && bytes_eq ds []) i)
     (ap (λ t. option_and_then long_of_rest (if t then Some ds else None)) i)
     (ap (λ t. if t then None else Some (d ∷ ds)) i) some.1)))
-    (λ a b c k r o. inr (only_ends ws))
-    (λ e es a b c k r o. inl (first_fails (45 ∷ 45 ∷ e ∷ es) ws (top_long e es)))
+    (λ a b c k r q o. inr (only_ends ws))
+    (λ e es a b c k r q o. inl (first_fails (45 ∷ 45 ∷ e ∷ es) ws (top_long e es)))
     w
   where
-    plain : (x : Text) → IsPlainWord x → bytes_eq (codes "run") x ≡ false → bytes_eq (codes "sim") x ≡ false → bytes_eq (codes "load") x ≡ false → bytes_eq (codes "keep") x ≡ false → bytes_eq (codes "races") x ≡ false → Enters x ws
-    plain x is a b c k r = inl (first_fails x ws (top_plain x a b c k r is.ends is.long is.short))
+    plain : (x : Text) → IsPlainWord x → bytes_eq (codes "run") x ≡ false → bytes_eq (codes "sim") x ≡ false → bytes_eq (codes "load") x ≡ false → bytes_eq (codes "keep") x ≡ false → bytes_eq (codes "races") x ≡ false → bytes_eq (codes "check") x ≡ false → Enters x ws
+    plain x is a b c k r q = inl (first_fails x ws (top_plain x a b c k r q is.ends is.long is.short))

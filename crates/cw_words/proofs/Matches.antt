@@ -14,7 +14,7 @@ use Rattle.clap.specs.Words.{Row, Text, fault_of, found_of, matched_of, raw_valu
 use Rattle.clap.specs.Walk.{rows_of}
 use Rattle.clap.specs.declared.parser.matches.Found.{Found}
 use Rattle.clap.proofs.WalkLemmas.{both, raw_values-rows}
-use Rattle.cw_words.specs.Asked.{keep_at, load_asked, races_at, run_at, sim_at, value_in, words_in}
+use Rattle.cw_words.specs.Asked.{check_at, keep_at, load_asked, races_at, run_at, sim_at, value_in, words_in}
 use Rattle.cw_words.specs.Shapes.{cli, fine, has_no_odd, is_odd}
 use Rattle.cw_words.specs.Words.{command_of}
 use Rattle.cw_words.proofs.Walks.{not_true}
@@ -87,5 +87,9 @@ module _ (ws : List Text) (m : ArgMatches) (r : Option (Bor Text × Bor ArgMatch
         → command_of ws ≡ races_at (value_in (found_of found.now)) (words_in (found_of found.now))
     races_entered a b c d e = entered ∙ rw (a, b, c, d, e) refl
 
-    pub other_entered : bytes_eq name.now (codes "run") ≡ false → bytes_eq name.now (codes "sim") ≡ false → bytes_eq name.now (codes "load") ≡ false → bytes_eq name.now (codes "keep") ≡ false → bytes_eq name.now (codes "races") ≡ false → command_of ws ≡ None
-    other_entered a b c d e = entered ∙ rw (a, b, c, d, e) refl
+    pub check_entered : bytes_eq name.now (codes "run") ≡ false → bytes_eq name.now (codes "sim") ≡ false → bytes_eq name.now (codes "load") ≡ false → bytes_eq name.now (codes "keep") ≡ false → bytes_eq name.now (codes "races") ≡ false → bytes_eq name.now (codes "check") ≡ true
+        → command_of ws ≡ check_at (value_in (found_of found.now)) (words_in (found_of found.now))
+    check_entered a b c d e f = entered ∙ rw (a, b, c, d, e, f) refl
+
+    pub other_entered : bytes_eq name.now (codes "run") ≡ false → bytes_eq name.now (codes "sim") ≡ false → bytes_eq name.now (codes "load") ≡ false → bytes_eq name.now (codes "keep") ≡ false → bytes_eq name.now (codes "races") ≡ false → bytes_eq name.now (codes "check") ≡ false → command_of ws ≡ None
+    other_entered a b c d e f = entered ∙ rw (a, b, c, d, e, f) refl

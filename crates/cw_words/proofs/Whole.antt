@@ -1,6 +1,6 @@
 -- The command that words are, by what clap's parse makes of them.
 use Rattle.std.proofs.Common.{◌≡◌, ◌∙◌, ◌&&◌, ◌||◌, ℕ, ℤ, Bool, true, false, true≢false, List, [], ◌∷◌, Option, Some, None, codes, not, is_some, option_map, refl, sym, ap, subst}
-use Rattle.std.specs.Prelude.{if◌then◌else◌, find, option_and_then, slice_get}
+use Rattle.std.specs.Prelude.{◌==◌, if◌then◌else◌, find, length, option_and_then, slice_get}
 use Rattle.std.specs.Str.{bytes_eq}
 use Rattle.std.specs.List.{list_all}
 use Rattle.std.specs.Option.{option_map_or}
@@ -13,6 +13,7 @@ use Rattle.cw_io.specs.declared.schedule.Schedule.{Schedule}
 use Rattle.cw_code.specs.declared.Limits.{Limits}
 use Rattle.cw_code.specs.Ranges.{aborts_option, fuel_option, moves_option, size_option, strands_option, workers_option}
 use Rattle.cw_words.specs.declared.command.Command.{Command}
+use Rattle.cw_words.specs.declared.command.Command.TheVariants.{Check}
 use Rattle.cw_words.specs.declared.command.ReportVersion.{ReportVersion}
 use Rattle.std.proofs.Common.{drop}
 use Rattle.std.specs.List.{after_first, before_first}
@@ -20,14 +21,14 @@ use Rattle.cw_words.specs.Options.{given_on, has_hyphen, integer_of, is_equals, 
 use Rattle.cw_words.proofs.Fits.{or_right}
 use Rattle.cw_words.specs.Options.{Given, GivenOption, are_known, given, integers_of, number_in, option_value}
 use Rattle.cw_words.specs.Words as words
-use Rattle.cw_words.specs.Words.{command_of, keep_given, keep_options, load_given, load_options, races_given, races_options, run_given, run_options, sim_given, sim_options}
-use Rattle.cw_words.specs.Asked.{Values, is_dash, keep_at, keep_from, limits_from, load_asked, load_from, races_at, races_from, run_at, run_from, sim_at, sim_from, transfers_at, vals}
+use Rattle.cw_words.specs.Words.{check_given, check_options, command_of, keep_given, keep_options, load_given, load_options, races_given, races_options, run_given, run_options, sim_given, sim_options}
+use Rattle.cw_words.specs.Asked.{Values, check_at, is_dash, keep_at, keep_from, limits_from, load_asked, load_from, races_at, races_from, run_at, run_from, sim_at, sim_from, transfers_at, vals}
 use Rattle.cw_words.specs.Shapes.{fine, fits, has_no_odd, is_known, judged, leaf_rules}
 use Rattle.cw_words.proofs.Fits.{fits_known, fits_one, one_fits}
 use Rattle.std.proofs.Common.{inl, inr, ◌⊎◌}
 use Rattle.std.specs.List.{list_any}
 use Rattle.cw_words.specs.Shapes.{cli, is_odd}
-use Rattle.cw_words.proofs.Leaf.{Enters, keep_fault, keep_rows, other_first, leaf_judged, leaf_seen, load_fault, load_rows, races_fault, races_rows, run_fault, run_rows, sim_fault, sim_rows}
+use Rattle.cw_words.proofs.Leaf.{Enters, check_command_fault, check_rows, keep_fault, keep_rows, other_first, leaf_judged, leaf_seen, load_fault, load_rows, races_fault, races_rows, run_fault, run_rows, sim_fault, sim_rows}
 use Rattle.cw_words.proofs.Rows.{Sees}
 
 -- the values of the options by what was given
@@ -57,6 +58,9 @@ keep_same g val k e =
 
 pub races_same : (g : Given) (val : Values) → are_known races_options g.options ≡ true → IsValued g.options val → races_given g ≡ races_at val g.words
 races_same g val k e = λ i. if k i then races_from (limits_same g.options val e i) (integers_of g.words) else None
+
+pub check_same : (g : Given) (val : Values) → are_known check_options g.options ≡ true → IsValued g.options val → check_given g ≡ check_at val g.words
+check_same g val k e = ap (λ t. if t && length g.words == 0 then Some Check else None) k
 
 first_vals : (j : Text) (rows : List Row) → slice_get (vals j rows) 0 ≡ first_of j rows
 first_vals j rows = go (find (λ r. bytes_eq r.id j) rows)
@@ -239,6 +243,12 @@ races_missing g h =
     go true (Some f) None a st m h = ap (λ l. races_from l (integers_of g.words)) (no_limits (Some f) None a st m refl)
     go true (Some f) (Some s) a st m h = absurd (true≢false h)
 
+pub check_unknown : (g : Given) → are_known check_options g.options ≡ false → check_given g ≡ None
+check_unknown g k = ap (λ t. if t && length g.words == 0 then Some Check else None) k
+
+pub check_missing : (g : Given) → list_all (λ n. is_some (option_value n g.options)) check_options ≡ false → check_given g ≡ None
+check_missing g h = absurd (true≢false h)
+
 limits_moves : (a b c d : Option ℕ) → limits_from a b c d None ≡ None
 limits_moves None b c d = refl
 limits_moves (Some a) None c d = refl
@@ -360,6 +370,17 @@ races_refused ws even e =
     refused races_options refl races_given races_at races_same races_unknown races_missing ws
     (sym (leaf_judged (codes "races") races_options refl ws even) ∙ sym (ap fine (races_fault ws)) ∙ e)
 
+pub check_taken : (ws : List Text) → has_no_odd ws ≡ true → fault_of cli (codes "check" ∷ ws) ≡ []
+    → command_of (codes "check" ∷ ws) ≡ check_at (λ j. first_of j (rows_after (leaf_rules check_options) [] ws)) (vals (codes "words") (rows_after (leaf_rules check_options) [] ws))
+check_taken ws even e =
+    taken check_options refl check_given check_at check_same check_unknown check_missing ws
+    (sym (leaf_judged (codes "check") check_options refl ws even) ∙ ap fine (sym (check_command_fault ws) ∙ e))
+
+pub check_refused : (ws : List Text) → has_no_odd ws ≡ true → fine (fault_of cli (codes "check" ∷ ws)) ≡ false → command_of (codes "check" ∷ ws) ≡ None
+check_refused ws even e =
+    refused check_options refl check_given check_at check_same check_unknown check_missing ws
+    (sym (leaf_judged (codes "check") check_options refl ws even) ∙ sym (ap fine (check_command_fault ws)) ∙ e)
+
 -- the command by the subcommand that a parse enters, and its rows
 abbrev pub command_by : Option (Text × List Row) → Option Command
 command_by None = None
@@ -369,45 +390,49 @@ command_by (Some p) =
     else if bytes_eq p.0 (codes "load") then load_asked (λ j. first_of j p.1) (vals (codes "words") p.1)
     else if bytes_eq p.0 (codes "keep") then keep_at (λ j. first_of j p.1) (vals (codes "words") p.1)
     else if bytes_eq p.0 (codes "races") then races_at (λ j. first_of j p.1) (vals (codes "words") p.1)
+    else if bytes_eq p.0 (codes "check") then check_at (λ j. first_of j p.1) (vals (codes "words") p.1)
     else None
 
 abbrev is_name : Text → Bool
-is_name w = bytes_eq w (codes "run") || (bytes_eq w (codes "sim") || (bytes_eq w (codes "load") || (bytes_eq w (codes "keep") || bytes_eq w (codes "races"))))
+is_name w = bytes_eq w (codes "run") || (bytes_eq w (codes "sim") || (bytes_eq w (codes "load") || (bytes_eq w (codes "keep") || (bytes_eq w (codes "races") || bytes_eq w (codes "check")))))
 
 no_name : (w : Text) (ws : List Text) → is_name w ≡ false → command_of (w ∷ ws) ≡ None
-no_name w ws = go (bytes_eq w (codes "run")) (bytes_eq w (codes "sim")) (bytes_eq w (codes "load")) (bytes_eq w (codes "keep")) (bytes_eq w (codes "races"))
+no_name w ws = go (bytes_eq w (codes "run")) (bytes_eq w (codes "sim")) (bytes_eq w (codes "load")) (bytes_eq w (codes "keep")) (bytes_eq w (codes "races")) (bytes_eq w (codes "check"))
   where
-    go : (a b c d x : Bool) → (a || (b || (c || (d || x)))) ≡ false
-        → (if a then option_and_then run_given (given ws) else if b then option_and_then sim_given (given ws) else if c then option_and_then load_given (given ws) else if d then option_and_then keep_given (given ws) else if x then option_and_then races_given (given ws) else None) ≡ None
-    go true b c d x e = absurd (true≢false e)
-    go false true c d x e = absurd (true≢false e)
-    go false false true d x e = absurd (true≢false e)
-    go false false false true x e = absurd (true≢false e)
-    go false false false false true e = absurd (true≢false e)
-    go false false false false false e = refl
+    go : (a b c d x y : Bool) → (a || (b || (c || (d || (x || y))))) ≡ false
+        → (if a then option_and_then run_given (given ws) else if b then option_and_then sim_given (given ws) else if c then option_and_then load_given (given ws) else if d then option_and_then keep_given (given ws) else if x then option_and_then races_given (given ws) else if y then option_and_then check_given (given ws) else None) ≡ None
+    go true b c d x y e = absurd (true≢false e)
+    go false true c d x y e = absurd (true≢false e)
+    go false false true d x y e = absurd (true≢false e)
+    go false false false true x y e = absurd (true≢false e)
+    go false false false false true y e = absurd (true≢false e)
+    go false false false false false true e = absurd (true≢false e)
+    go false false false false false false e = refl
 
 module _ (ws : List Text) (even : has_no_odd ws ≡ true) where
   pub whole_refused : (w : Text) → fine (fault_of cli (w ∷ ws)) ≡ false → command_of (w ∷ ws) ≡ None
-  whole_refused w e = go (bytes_eq w (codes "run")) (bytes_eq w (codes "sim")) (bytes_eq w (codes "load")) (bytes_eq w (codes "keep")) (bytes_eq w (codes "races")) refl refl refl refl refl
+  whole_refused w e = go (bytes_eq w (codes "run")) (bytes_eq w (codes "sim")) (bytes_eq w (codes "load")) (bytes_eq w (codes "keep")) (bytes_eq w (codes "races")) (bytes_eq w (codes "check")) refl refl refl refl refl refl
     where
-      go : (a b c d x : Bool) → bytes_eq w (codes "run") ≡ a → bytes_eq w (codes "sim") ≡ b → bytes_eq w (codes "load") ≡ c → bytes_eq w (codes "keep") ≡ d → bytes_eq w (codes "races") ≡ x → command_of (w ∷ ws) ≡ None
-      go true b c d x i j k l m = subst (λ x. fine (fault_of cli (x ∷ ws)) ≡ false → command_of (x ∷ ws) ≡ None) (sym ((bytes_eq-Decides w (codes "run")).0 i)) (run_refused ws even) e
-      go false true c d x i j k l m = subst (λ x. fine (fault_of cli (x ∷ ws)) ≡ false → command_of (x ∷ ws) ≡ None) (sym ((bytes_eq-Decides w (codes "sim")).0 j)) (sim_refused ws even) e
-      go false false true d x i j k l m = subst (λ x. fine (fault_of cli (x ∷ ws)) ≡ false → command_of (x ∷ ws) ≡ None) (sym ((bytes_eq-Decides w (codes "load")).0 k)) (load_refused ws even) e
-      go false false false true x i j k l m = subst (λ x. fine (fault_of cli (x ∷ ws)) ≡ false → command_of (x ∷ ws) ≡ None) (sym ((bytes_eq-Decides w (codes "keep")).0 l)) (keep_refused ws even) e
-      go false false false false true i j k l m = subst (λ y. fine (fault_of cli (y ∷ ws)) ≡ false → command_of (y ∷ ws) ≡ None) (sym ((bytes_eq-Decides w (codes "races")).0 m)) (races_refused ws even) e
-      go false false false false false i j k l m = no_name w ws (λ z. i z || (j z || (k z || (l z || m z))))
+      go : (a b c d x y : Bool) → bytes_eq w (codes "run") ≡ a → bytes_eq w (codes "sim") ≡ b → bytes_eq w (codes "load") ≡ c → bytes_eq w (codes "keep") ≡ d → bytes_eq w (codes "races") ≡ x → bytes_eq w (codes "check") ≡ y → command_of (w ∷ ws) ≡ None
+      go true b c d x y i j k l m n = subst (λ x. fine (fault_of cli (x ∷ ws)) ≡ false → command_of (x ∷ ws) ≡ None) (sym ((bytes_eq-Decides w (codes "run")).0 i)) (run_refused ws even) e
+      go false true c d x y i j k l m n = subst (λ x. fine (fault_of cli (x ∷ ws)) ≡ false → command_of (x ∷ ws) ≡ None) (sym ((bytes_eq-Decides w (codes "sim")).0 j)) (sim_refused ws even) e
+      go false false true d x y i j k l m n = subst (λ x. fine (fault_of cli (x ∷ ws)) ≡ false → command_of (x ∷ ws) ≡ None) (sym ((bytes_eq-Decides w (codes "load")).0 k)) (load_refused ws even) e
+      go false false false true x y i j k l m n = subst (λ x. fine (fault_of cli (x ∷ ws)) ≡ false → command_of (x ∷ ws) ≡ None) (sym ((bytes_eq-Decides w (codes "keep")).0 l)) (keep_refused ws even) e
+      go false false false false true y i j k l m n = subst (λ y. fine (fault_of cli (y ∷ ws)) ≡ false → command_of (y ∷ ws) ≡ None) (sym ((bytes_eq-Decides w (codes "races")).0 m)) (races_refused ws even) e
+      go false false false false false true i j k l m n = subst (λ y. fine (fault_of cli (y ∷ ws)) ≡ false → command_of (y ∷ ws) ≡ None) (sym ((bytes_eq-Decides w (codes "check")).0 n)) (check_refused ws even) e
+      go false false false false false false i j k l m n = no_name w ws (λ z. i z || (j z || (k z || (l z || (m z || n z)))))
 
   pub named_taken : (w : Text) → is_name w ≡ true → fault_of cli (w ∷ ws) ≡ [] → command_of (w ∷ ws) ≡ command_by (subcommand_of cli (w ∷ ws))
-  named_taken w n e = go (bytes_eq w (codes "run")) (bytes_eq w (codes "sim")) (bytes_eq w (codes "load")) (bytes_eq w (codes "keep")) (bytes_eq w (codes "races")) refl refl refl refl refl
+  named_taken w is e = go (bytes_eq w (codes "run")) (bytes_eq w (codes "sim")) (bytes_eq w (codes "load")) (bytes_eq w (codes "keep")) (bytes_eq w (codes "races")) (bytes_eq w (codes "check")) refl refl refl refl refl refl
     where
-      go : (a b c d x : Bool) → bytes_eq w (codes "run") ≡ a → bytes_eq w (codes "sim") ≡ b → bytes_eq w (codes "load") ≡ c → bytes_eq w (codes "keep") ≡ d → bytes_eq w (codes "races") ≡ x → command_of (w ∷ ws) ≡ command_by (subcommand_of cli (w ∷ ws))
-      go true b c d x i j k l m = subst (λ x. fault_of cli (x ∷ ws) ≡ [] → command_of (x ∷ ws) ≡ command_by (subcommand_of cli (x ∷ ws))) (sym ((bytes_eq-Decides w (codes "run")).0 i)) (λ f. run_taken ws even f ∙ sym (ap command_by (run_rows ws))) e
-      go false true c d x i j k l m = subst (λ x. fault_of cli (x ∷ ws) ≡ [] → command_of (x ∷ ws) ≡ command_by (subcommand_of cli (x ∷ ws))) (sym ((bytes_eq-Decides w (codes "sim")).0 j)) (λ f. sim_taken ws even f ∙ sym (ap command_by (sim_rows ws))) e
-      go false false true d x i j k l m = subst (λ x. fault_of cli (x ∷ ws) ≡ [] → command_of (x ∷ ws) ≡ command_by (subcommand_of cli (x ∷ ws))) (sym ((bytes_eq-Decides w (codes "load")).0 k)) (λ f. load_taken ws even f ∙ sym (ap command_by (load_rows ws))) e
-      go false false false true x i j k l m = subst (λ x. fault_of cli (x ∷ ws) ≡ [] → command_of (x ∷ ws) ≡ command_by (subcommand_of cli (x ∷ ws))) (sym ((bytes_eq-Decides w (codes "keep")).0 l)) (λ f. keep_taken ws even f ∙ sym (ap command_by (keep_rows ws))) e
-      go false false false false true i j k l m = subst (λ y. fault_of cli (y ∷ ws) ≡ [] → command_of (y ∷ ws) ≡ command_by (subcommand_of cli (y ∷ ws))) (sym ((bytes_eq-Decides w (codes "races")).0 m)) (λ f. races_taken ws even f ∙ sym (ap command_by (races_rows ws))) e
-      go false false false false false i j k l m = absurd (true≢false (sym n ∙ (λ z. i z || (j z || (k z || (l z || m z))))))
+      go : (a b c d x y : Bool) → bytes_eq w (codes "run") ≡ a → bytes_eq w (codes "sim") ≡ b → bytes_eq w (codes "load") ≡ c → bytes_eq w (codes "keep") ≡ d → bytes_eq w (codes "races") ≡ x → bytes_eq w (codes "check") ≡ y → command_of (w ∷ ws) ≡ command_by (subcommand_of cli (w ∷ ws))
+      go true b c d x y i j k l m n = subst (λ x. fault_of cli (x ∷ ws) ≡ [] → command_of (x ∷ ws) ≡ command_by (subcommand_of cli (x ∷ ws))) (sym ((bytes_eq-Decides w (codes "run")).0 i)) (λ f. run_taken ws even f ∙ sym (ap command_by (run_rows ws))) e
+      go false true c d x y i j k l m n = subst (λ x. fault_of cli (x ∷ ws) ≡ [] → command_of (x ∷ ws) ≡ command_by (subcommand_of cli (x ∷ ws))) (sym ((bytes_eq-Decides w (codes "sim")).0 j)) (λ f. sim_taken ws even f ∙ sym (ap command_by (sim_rows ws))) e
+      go false false true d x y i j k l m n = subst (λ x. fault_of cli (x ∷ ws) ≡ [] → command_of (x ∷ ws) ≡ command_by (subcommand_of cli (x ∷ ws))) (sym ((bytes_eq-Decides w (codes "load")).0 k)) (λ f. load_taken ws even f ∙ sym (ap command_by (load_rows ws))) e
+      go false false false true x y i j k l m n = subst (λ x. fault_of cli (x ∷ ws) ≡ [] → command_of (x ∷ ws) ≡ command_by (subcommand_of cli (x ∷ ws))) (sym ((bytes_eq-Decides w (codes "keep")).0 l)) (λ f. keep_taken ws even f ∙ sym (ap command_by (keep_rows ws))) e
+      go false false false false true y i j k l m n = subst (λ y. fault_of cli (y ∷ ws) ≡ [] → command_of (y ∷ ws) ≡ command_by (subcommand_of cli (y ∷ ws))) (sym ((bytes_eq-Decides w (codes "races")).0 m)) (λ f. races_taken ws even f ∙ sym (ap command_by (races_rows ws))) e
+      go false false false false false true i j k l m n = subst (λ y. fault_of cli (y ∷ ws) ≡ [] → command_of (y ∷ ws) ≡ command_by (subcommand_of cli (y ∷ ws))) (sym ((bytes_eq-Decides w (codes "check")).0 n)) (λ f. check_taken ws even f ∙ sym (ap command_by (check_rows ws))) e
+      go false false false false false false i j k l m n = absurd (true≢false (sym is ∙ (λ z. i z || (j z || (k z || (l z || (m z || n z)))))))
 
   flipped : (x y : Text) → bytes_eq x y ≡ false → bytes_eq y x ≡ false
   flipped x y e = go (bytes_eq y x) refl
@@ -418,19 +443,20 @@ module _ (ws : List Text) (even : has_no_odd ws ≡ true) where
 
   -- a parse that does not fail gives the command that the words are
   pub whole_taken : (w : Text) → is_odd w ≡ false → fault_of cli (w ∷ ws) ≡ [] → command_of (w ∷ ws) ≡ command_by (subcommand_of cli (w ∷ ws))
-  whole_taken w o e = go (bytes_eq w (codes "run")) (bytes_eq w (codes "sim")) (bytes_eq w (codes "load")) (bytes_eq w (codes "keep")) (bytes_eq w (codes "races")) refl refl refl refl refl
+  whole_taken w o e = go (bytes_eq w (codes "run")) (bytes_eq w (codes "sim")) (bytes_eq w (codes "load")) (bytes_eq w (codes "keep")) (bytes_eq w (codes "races")) (bytes_eq w (codes "check")) refl refl refl refl refl refl
     where
       other : Enters w ws → command_of (w ∷ ws) ≡ None → command_of (w ∷ ws) ≡ command_by (subcommand_of cli (w ∷ ws))
       other (inl f) none = absurd (true≢false (sym (ap fine e) ∙ f))
       other (inr s) none = none ∙ sym (ap command_by s)
 
-      go : (a b c d x : Bool) → bytes_eq w (codes "run") ≡ a → bytes_eq w (codes "sim") ≡ b → bytes_eq w (codes "load") ≡ c → bytes_eq w (codes "keep") ≡ d → bytes_eq w (codes "races") ≡ x → command_of (w ∷ ws) ≡ command_by (subcommand_of cli (w ∷ ws))
-      go true b c d x i j k l m = named_taken w (ap (λ t. t || (bytes_eq w (codes "sim") || (bytes_eq w (codes "load") || (bytes_eq w (codes "keep") || bytes_eq w (codes "races"))))) i) e
-      go false true c d x i j k l m = named_taken w (λ z. i z || (j z || (bytes_eq w (codes "load") || (bytes_eq w (codes "keep") || bytes_eq w (codes "races"))))) e
-      go false false true d x i j k l m = named_taken w (λ z. i z || (j z || (k z || (bytes_eq w (codes "keep") || bytes_eq w (codes "races"))))) e
-      go false false false true x i j k l m = named_taken w (λ z. i z || (j z || (k z || (l z || bytes_eq w (codes "races"))))) e
-      go false false false false true i j k l m = named_taken w (λ z. i z || (j z || (k z || (l z || m z)))) e
-      go false false false false false i j k l m = other (other_first ws w (flipped w (codes "run") i) (flipped w (codes "sim") j) (flipped w (codes "load") k) (flipped w (codes "keep") l) (flipped w (codes "races") m) o) (no_name w ws (λ z. i z || (j z || (k z || (l z || m z)))))
+      go : (a b c d x y : Bool) → bytes_eq w (codes "run") ≡ a → bytes_eq w (codes "sim") ≡ b → bytes_eq w (codes "load") ≡ c → bytes_eq w (codes "keep") ≡ d → bytes_eq w (codes "races") ≡ x → bytes_eq w (codes "check") ≡ y → command_of (w ∷ ws) ≡ command_by (subcommand_of cli (w ∷ ws))
+      go true b c d x y i j k l m n = named_taken w (ap (λ t. t || (bytes_eq w (codes "sim") || (bytes_eq w (codes "load") || (bytes_eq w (codes "keep") || (bytes_eq w (codes "races") || bytes_eq w (codes "check")))))) i) e
+      go false true c d x y i j k l m n = named_taken w (λ z. i z || (j z || (bytes_eq w (codes "load") || (bytes_eq w (codes "keep") || (bytes_eq w (codes "races") || bytes_eq w (codes "check")))))) e
+      go false false true d x y i j k l m n = named_taken w (λ z. i z || (j z || (k z || (bytes_eq w (codes "keep") || (bytes_eq w (codes "races") || bytes_eq w (codes "check")))))) e
+      go false false false true x y i j k l m n = named_taken w (λ z. i z || (j z || (k z || (l z || (bytes_eq w (codes "races") || bytes_eq w (codes "check")))))) e
+      go false false false false true y i j k l m n = named_taken w (λ z. i z || (j z || (k z || (l z || (m z || n z))))) e
+      go false false false false false true i j k l m n = named_taken w (λ z. i z || (j z || (k z || (l z || (m z || n z))))) e
+      go false false false false false false i j k l m n = other (other_first ws w (flipped w (codes "run") i) (flipped w (codes "sim") j) (flipped w (codes "load") k) (flipped w (codes "keep") l) (flipped w (codes "races") m) (flipped w (codes "check") n) o) (no_name w ws (λ z. i z || (j z || (k z || (l z || (m z || n z))))))
 
 -- ## `-` as a word
 

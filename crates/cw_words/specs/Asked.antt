@@ -1,5 +1,5 @@
 -- What clap's matches ask for, by the value of each option and the words that belong to none.
-use Rattle.std.specs.Prelude.{ℕ, ℤ, Bool, List, [], Option, codes, find, option_and_then, option_map}
+use Rattle.std.specs.Prelude.{ℕ, ℤ, ◌==◌, Bool, List, [], Option, Some, None, codes, find, if◌then◌else◌, length, option_and_then, option_map}
 use Rattle.std.specs.Option.{option_map_or}
 use Rattle.std.specs.Str.{bytes_eq}
 use Rattle.clap.specs.Words.{Row, Text, first_of}
@@ -9,7 +9,7 @@ use Rattle.cw_code.specs.declared.Limits.{Limits}
 use Rattle.cw_code.specs.Ranges.{NumberOption, aborts_option, fuel_option, moves_option, size_option, strands_option, workers_option}
 use Rattle.cw_io.specs.declared.schedule.Schedule.{Schedule}
 use Rattle.cw_words.specs.declared.command.Command.{Command}
-use Rattle.cw_words.specs.declared.command.Command.TheVariants.{Run, Sim, Load, Keep, Races}
+use Rattle.cw_words.specs.declared.command.Command.TheVariants.{Run, Sim, Load, Keep, Races, Check}
 use Rattle.cw_words.specs.declared.command.ReportVersion.{ReportVersion}
 use Rattle.cw_words.specs.Options.{integers_of, number_in, number_within, sole_word}
 use Rattle.cw_words.specs.Words.{most_transfers, report_in, schedule_in}
@@ -88,3 +88,6 @@ races_from limits integers = option_and_then (λ l. option_map (λ ns. Races ns 
 
 abbrev pub races_at : Values → List Text → Option Command
 races_at val ws = races_from (limits_at val) (integers_of ws)
+
+abbrev pub check_at : Values → List Text → Option Command
+check_at val ws = if length ws == 0 then Some Check else None

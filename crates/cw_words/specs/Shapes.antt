@@ -10,7 +10,7 @@ use Rattle.clap.specs.Walk.{Held, Waiting, Walk, has_row, is_empty, settled_rows
 use Rattle.clap.specs.Faults.{settle_fault, walk_fault}
 use Rattle.clap.specs.declared.builder.action.ArgAction.TheVariants.{Append, Set}
 use Rattle.clap.specs.declared.builder.value_parser.ValueParser.TheVariants as vp
-use Rattle.cw_words.specs.Words.{keep_options, load_options, races_options, run_options, sim_options}
+use Rattle.cw_words.specs.Words.{check_options, keep_options, load_options, races_options, run_options, sim_options}
 use Rattle.cw_words.specs.Options.{Given, GivenOption, has_hyphen, is_option}
 
 abbrev pub option_rule : Text → Rule
@@ -86,5 +86,5 @@ has_no_odd ws = list_all (λ w. not (is_odd w)) ws
 abbrev pub cli : App
 cli = record {
   top = record (new_shape (codes "cwstm")) { is_leaf = false; no_binary_name = true; disable_help_flag = true; disable_help_subcommand = true };
-  subs = (leaf_app (codes "run") run_options).top ∷ (leaf_app (codes "sim") sim_options).top ∷ (leaf_app (codes "load") load_options).top ∷ (leaf_app (codes "keep") keep_options).top ∷ (leaf_app (codes "races") races_options).top ∷ [];
+  subs = (leaf_app (codes "run") run_options).top ∷ (leaf_app (codes "sim") sim_options).top ∷ (leaf_app (codes "load") load_options).top ∷ (leaf_app (codes "keep") keep_options).top ∷ (leaf_app (codes "races") races_options).top ∷ (leaf_app (codes "check") check_options).top ∷ [];
 }

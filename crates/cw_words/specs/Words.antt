@@ -1,6 +1,7 @@
--- Which words are a command, and what they say. There are five commands. `run` has six options, `keep` has five of them and
--- `races` two, and `sim` has nine. These four have the words of main. `load` has one option and a number.
-use Rattle.std.specs.Prelude.{◌-◌, ◌^◌, ◌==◌, List, [], ◌∷◌, ℕ, ℤ, Option, Some, None, codes, if◌then◌else◌, map, option_and_then, option_map, string_bytes, String}
+-- Which words are a command, and what they say. There are six commands. `run` has six options, `keep` has five of them and
+-- `races` two, and `sim` has nine. These four have the words of main. `load` has one option and a number, and `check` has neither
+-- options nor words.
+use Rattle.std.specs.Prelude.{◌-◌, ◌^◌, ◌==◌, ◌&&◌, length, List, [], ◌∷◌, ℕ, ℤ, Option, Some, None, codes, if◌then◌else◌, map, option_and_then, option_map, string_bytes, String}
 use Rattle.std.specs.declared.alloc.Global.{Global}
 use Rattle.std.specs.Str.{bytes_eq}
 use Rattle.cw_code.specs.declared.Limits.{Limits}
@@ -8,7 +9,7 @@ use Rattle.cw_code.specs.Ranges.{aborts_option, default_limits, fuel_option, mov
 use Rattle.cw_io.specs.declared.schedule.Schedule.{Schedule}
 use Rattle.cw_io.specs.declared.schedule.Schedule.TheVariants.{List as Listed, Seeded}
 use Rattle.cw_words.specs.declared.command.Command.{Command}
-use Rattle.cw_words.specs.declared.command.Command.TheVariants.{Run, Sim, Load, Keep, Races}
+use Rattle.cw_words.specs.declared.command.Command.TheVariants.{Run, Sim, Load, Keep, Races, Check}
 use Rattle.cw_words.specs.declared.command.ReportVersion.{ReportVersion}
 use Rattle.cw_words.specs.declared.command.ReportVersion.TheVariants.{First, Second}
 use Rattle.cw_words.specs.Options.{Given, GivenOption, are_known, given, integers_of, list_below, number_given, number_within, sole_word, option_value}
@@ -30,6 +31,9 @@ keep_options = codes "fuel" ∷ codes "size" ∷ codes "aborts" ∷ codes "stran
 
 abbrev pub races_options : List (List ℕ)
 races_options = codes "fuel" ∷ codes "size" ∷ []
+
+abbrev pub check_options : List (List ℕ)
+check_options = []
 
 -- The limits that options give. A limit that is not given, or that is no option of the command, has its default.
 abbrev pub limits_given : List GivenOption → Option Limits
@@ -112,6 +116,10 @@ races_given g =
     if are_known races_options g.options then option_and_then (λ limits. option_map (λ ns. Races ns limits) (integers_of g.words)) (limits_given g.options)
     else None
 
+-- the check of a sheet, if there is no word
+abbrev pub check_given : Given → Option Command
+check_given g = if are_known check_options g.options && length g.words == 0 then Some Check else None
+
 -- The first word says which command it is.
 abbrev pub command_of : List (List ℕ) → Option Command
 command_of [] = None
@@ -121,6 +129,7 @@ command_of (name ∷ words) =
     else if bytes_eq name (codes "load") then option_and_then load_given (given words)
     else if bytes_eq name (codes "keep") then option_and_then keep_given (given words)
     else if bytes_eq name (codes "races") then option_and_then races_given (given words)
+    else if bytes_eq name (codes "check") then option_and_then check_given (given words)
     else None
 
 abbrev pub words_of : Command → List ℤ
@@ -129,6 +138,7 @@ words_of (Sim words limits workers schedule report) = words
 words_of (Load transfers workers) = []
 words_of (Keep words limits workers) = words
 words_of (Races words limits) = words
+words_of Check = []
 
 abbrev pub limits_of : Command → Limits
 limits_of (Run words limits workers report) = limits
@@ -136,6 +146,7 @@ limits_of (Sim words limits workers schedule report) = limits
 limits_of (Load transfers workers) = default_limits
 limits_of (Keep words limits workers) = limits
 limits_of (Races words limits) = limits
+limits_of Check = default_limits
 
 -- the command that the words behind the program's name are, if they are one
 abbrev pub command_in : List (String Global) → Option Command

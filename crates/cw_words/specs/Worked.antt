@@ -6,7 +6,7 @@ use Rattle.cw_code.specs.Ranges.{default_limits}
 use Rattle.cw_io.specs.declared.schedule.Schedule.{Schedule}
 use Rattle.cw_io.specs.declared.schedule.Schedule.TheVariants.{List as Listed, Seeded}
 use Rattle.cw_words.specs.declared.command.Command.{Command}
-use Rattle.cw_words.specs.declared.command.Command.TheVariants.{Run, Sim, Load, Keep, Races}
+use Rattle.cw_words.specs.declared.command.Command.TheVariants.{Run, Sim, Load, Keep, Races, Check}
 use Rattle.cw_words.specs.declared.command.ReportVersion.TheVariants.{First, Second}
 use Rattle.cw_words.specs.Options.{list_below}
 use Rattle.cw_words.specs.Words.{command_of}
@@ -209,3 +209,17 @@ pub record RaceSearches : Type 0 where
   pub report : command_of (codes "races" ∷ codes "--report" ∷ codes "1" ∷ []) ≡ None
   pub fuel_twice : command_of (codes "races" ∷ codes "--fuel=4" ∷ codes "--fuel" ∷ codes "4" ∷ []) ≡ None
   pub letter : command_of (codes "races" ∷ codes "x" ∷ []) ≡ None
+
+pub record Checks : Type 0 where
+  pub plain : command_of (codes "check" ∷ []) ≡ Some Check
+  pub no_more : command_of (codes "check" ∷ codes "--" ∷ []) ≡ Some Check
+  pub capital : command_of (codes "Check" ∷ []) ≡ None
+  -- words, and options of other commands
+  pub letter : command_of (codes "check" ∷ codes "x" ∷ []) ≡ None
+  pub number : command_of (codes "check" ∷ codes "7" ∷ []) ≡ None
+  pub empty : command_of (codes "check" ∷ [] ∷ []) ≡ None
+  pub only_words : command_of (codes "check" ∷ codes "--" ∷ codes "x" ∷ []) ≡ None
+  pub end_twice : command_of (codes "check" ∷ codes "--" ∷ codes "--" ∷ []) ≡ None
+  pub dash : command_of (codes "check" ∷ codes "-" ∷ []) ≡ None
+  pub fuel : command_of (codes "check" ∷ codes "--fuel" ∷ codes "1" ∷ []) ≡ None
+  pub report : command_of (codes "check" ∷ codes "--report=1" ∷ []) ≡ None

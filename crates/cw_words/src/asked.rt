@@ -1,4 +1,4 @@
-ghost use Rattle.std.specs.Prelude.{◌≡◌, ◌<◌, ◌≤◌, ℕ, IfOk, IfSome, IsOkAnd, None, map, option_map};
+ghost use Rattle.std.specs.Prelude.{◌≡◌, ◌<◌, ◌≤◌, ◌==◌, ℕ, IfOk, IfSome, IsOkAnd, None, length, map, option_map};
 ghost use Rattle.clap.specs.Words.{found_of};
 ghost use Rattle.cw_code.specs.Ranges.{option_of, workers_option};
 ghost use Rattle.cw_io.specs.declared.schedule.Schedule.TheVariants.{List as Listed};
@@ -140,6 +140,16 @@ pub fn integers_of(alloc: Global, found: &ArgMatches<'_>) -> Option<Kept<i64>>
     match found.get_strs("words") {
         Some(words) => integers_in(alloc, words),
         None => Some(Ok(Seq::new(alloc))),
+    }
+}
+
+/// Whether there is no word that belongs to no option.
+pub fn has_no_word(found: &ArgMatches<'_>) -> bool
+    ensures { result ≡ (length (words_in (found_of found.now)) == 0) }
+{
+    match found.get_strs("words") {
+        Some(words) => words.is_empty(),
+        None => true,
     }
 }
 

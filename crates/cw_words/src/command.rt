@@ -1,11 +1,13 @@
 ghost use Rattle.std.specs.Prelude.{◌≡◌, IfOk, false, length, map, string_bytes, true};
 ghost use Rattle.std.specs.List.{list_any};
 ghost use Rattle.clap.specs.Words.{found_of};
-ghost use Rattle.cw_words.specs.Asked.{is_dash, keep_at, load_asked, races_at, run_at, sim_at, value_in, words_in};
+ghost use Rattle.cw_words.specs.Asked.{check_at, is_dash, keep_at, load_asked, races_at, run_at, sim_at, value_in, words_in};
 ghost use Rattle.cw_words.specs.Shapes.{has_no_odd};
 ghost use Rattle.cw_words.specs.Words.{command_of, words_of};
 
-use crate::asked::{integers_of, limits_of, report_of, schedule_of, transfers_of, workers_of};
+use crate::asked::{
+    has_no_word, integers_of, limits_of, report_of, schedule_of, transfers_of, workers_of,
+};
 use crate::line::parsed;
 use clap::ArgMatches;
 use clap::error::ErrorKind;
@@ -56,6 +58,8 @@ pub enum Command {
         words: Seq<i64>,
         limits: Limits,
     },
+    /// Reads a record sheet from the source, runs nothing, and writes whether all that the sheet says fits together.
+    Check,
 }
 
 impl Command {
@@ -68,7 +72,7 @@ impl Command {
             | Command::Sim { words, .. }
             | Command::Keep { words, .. }
             | Command::Races { words, .. } => words.len(),
-            Command::Load { .. } => 0,
+            Command::Load { .. } | Command::Check => 0,
         }
     }
 }
@@ -170,6 +174,17 @@ fn races_with(alloc: Global, found: &ArgMatches<'_>) -> Result<Option<Command>, 
     }))
 }
 
+// Returns the check of a sheet, if there is no word.
+fn check_with(found: &ArgMatches<'_>) -> Option<Command>
+    ensures { result ≡ check_at (value_in (found_of found.now)) (words_in (found_of found.now)) }
+{
+    if has_no_word(found) {
+        Some(Command::Check)
+    } else {
+        None
+    }
+}
+
 // Whether one of the words is `-`. clap takes it as a value or a plain word.
 fn has_hyphen_alone(words: &[String]) -> bool
     ensures dash { result ≡ list_any is_dash (map string_bytes words.now) }
@@ -212,6 +227,8 @@ pub fn command_of(alloc: Global, words: &[String]) -> Result<Option<Command>, Ou
         keep_with(alloc, found)
     } else if name == "races" {
         races_with(alloc, found)
+    } else if name == "check" {
+        Ok(check_with(found))
     } else {
         Ok(None)
     }

@@ -9,7 +9,7 @@ mod command;
 mod line;
 mod options;
 
-ghost use Rattle.cw_words.specs.Worked.{Commands, Keeps, Loads, RaceSearches, Simulations};
+ghost use Rattle.cw_words.specs.Worked.{Checks, Commands, Keeps, Loads, RaceSearches, Simulations};
 
 pub use command::{Command, ReportVersion, command_of};
 
@@ -20,4 +20,5 @@ pub fn worked_words()
     ensures loads { Loads }
     ensures keeps { Keeps }
     ensures races { RaceSearches }
+    ensures checks { Checks }
 {}

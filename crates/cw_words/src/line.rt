@@ -1,7 +1,7 @@
 ghost use Rattle.std.specs.Prelude.{◌≡◌, ◌⊎◌, [], codes, false, IfErr, IfOk, map, string_bytes};
 ghost use Rattle.clap.specs.Words.{app_of, fault_of, kind_of, rule_of, subcommand_of, subcommand_rows_of};
 ghost use Rattle.clap.specs.declared.builder.command.Command.TheViews.{out-Command as fields_of};
-ghost use Rattle.cw_words.specs.Words.{keep_options, load_options, races_options, run_options, sim_options};
+ghost use Rattle.cw_words.specs.Words.{check_options, keep_options, load_options, races_options, run_options, sim_options};
 ghost use Rattle.cw_words.specs.Shapes.{cli, fine, leaf_app, option_rule, word_rule};
 
 use clap::error::ErrorKind;
@@ -52,6 +52,8 @@ static KEEP_OPTIONS: [&str; 5] = ["fuel", "size", "aborts", "strands", "workers"
 
 static RACES_OPTIONS: [&str; 2] = ["fuel", "size"];
 
+static CHECK_OPTIONS: [&str; 0] = [];
+
 fn run_line<'a>(alloc: Global) -> Result<Command<'a>, AllocError>
     ensures app { IfOk result (λ r. app_of r ≡ leaf_app (codes "run") run_options) }
     ensures local { IfOk result (λ r. (fields_of r).has_globals ≡ false) }
@@ -87,7 +89,14 @@ fn races_line<'a>(alloc: Global) -> Result<Command<'a>, AllocError>
     command_with(alloc, "races", RACES_OPTIONS.as_slice())
 }
 
-// Returns the command line: five commands, with neither help nor version.
+fn check_line<'a>(alloc: Global) -> Result<Command<'a>, AllocError>
+    ensures app { IfOk result (λ r. app_of r ≡ leaf_app (codes "check") check_options) }
+    ensures local { IfOk result (λ r. (fields_of r).has_globals ≡ false) }
+{
+    command_with(alloc, "check", CHECK_OPTIONS.as_slice())
+}
+
+// Returns the command line: six commands, with neither help nor version.
 fn command_line<'a>(alloc: Global) -> Result<Command<'a>, AllocError>
     ensures { IfOk result (λ r. app_of r ≡ cli) }
 {
@@ -96,6 +105,7 @@ fn command_line<'a>(alloc: Global) -> Result<Command<'a>, AllocError>
     let load = load_line(alloc)?;
     let keep = keep_line(alloc)?;
     let races = races_line(alloc)?;
+    let check = check_line(alloc)?;
     Command::new(alloc, "cwstm")
         .no_binary_name(true)
         .disable_help_flag(true)
@@ -104,7 +114,8 @@ fn command_line<'a>(alloc: Global) -> Result<Command<'a>, AllocError>
         .subcommand(sim)?
         .subcommand(load)?
         .subcommand(keep)?
-        .subcommand(races)
+        .subcommand(races)?
+        .subcommand(check)
 }
 
 /// Parses the words as clap does. It takes `-` as a word or a value, so it needs words that do not have it.

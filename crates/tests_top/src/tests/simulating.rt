@@ -1,6 +1,10 @@
 use super::{answer, ran};
+use cw_base::Seq;
 use cw_io::{SureSink, SureSource};
-use cw_record::Record;
+use cw_record::{Record, RecordEnd};
+use cw_sheet::{Sheet, sheet_text};
+use cw_text::read_program;
+use std::alloc::Global;
 use std::sync::Wait;
 use std::test::Fail;
 use std::thread::Threads;
@@ -36,6 +40,56 @@ fn a_refused_access_is_kept(rt: HostRuntime) -> Result<(), Fail> {
     Ok(())
 }
 
+// Returns the sheet of a run of `REFUSED`.
+fn sheet_of(alloc: Global, run: Record) -> Result<Sheet, Fail> {
+    let Ok(ast) = read_program(alloc, REFUSED) else {
+        return Err("the source was not read".into());
+    };
+    let Record {
+        words,
+        limits,
+        tree,
+        conflicts,
+        end,
+        ..
+    } = run;
+    Ok(Sheet {
+        ast,
+        words,
+        limits,
+        tree,
+        conflicts,
+        end,
+    })
+}
+
+// Returns the status and the answer of a check of this sheet.
+fn judged<R: AllocGlobal + Threads + Wait + Sync>(
+    rt: &R,
+    sheet: &Sheet,
+) -> Result<(u8, Vec<u8>), Fail> {
+    let text = sheet_text(rt.alloc(), sheet)?;
+    ran(rt, &["check"], text.as_slice())
+}
+
+#[test]
+fn a_sheet_with_a_refused_access_is_judged(rt: HostRuntime) -> Result<(), Fail> {
+    let (_, run) = simulated(&rt, REFUSED, "0,1,0,0,1,1,1", "--aborts=2")?;
+    assert_eq!(rt; run.conflicts.len(), 1);
+    let mut sheet = sheet_of(rt.alloc(), run)?;
+    let (said, answer) = judged(&rt, &sheet)?;
+    assert_eq!(rt; said, 0);
+    assert_eq!(rt; answer.as_slice(), b"sound\n".as_slice());
+    sheet.end = RecordEnd::Finished {
+        memory: Seq::from_vec([3].to_vec(rt.alloc())?),
+        outputs: Seq::new(rt.alloc()),
+    };
+    let (said, answer) = judged(&rt, &sheet)?;
+    assert_eq!(rt; said, 11);
+    assert_eq!(rt; answer.as_slice(), b"broken 6\n".as_slice());
+    Ok(())
+}
+
 // A block that is given up: its writes go back, its outputs stay.
 const GIVEN_UP: &[u8] =
     b"language 2; cell c = 5; fn main() { atomic { c = 9; out c; cancel; out 1; } out c; }";
@@ -45,7 +99,11 @@ fn a_block_is_given_up_in_turns_and_on_threads(rt: HostRuntime) -> Result<(), Fa
     for command in ["sim", "run"] {
         let (said, told) = ran(&rt, &[command], GIVEN_UP)?;
         assert_eq!(rt; said, 0, "{command}");
-        assert_eq!(rt; told.as_slice(), b"out 9\nout 5\nc = 5\nend\n".as_slice(), "{command}");
+        assert_eq!(rt;
+            told.as_slice(),
+            b"out 9\nout 5\nc = 5\nend\n".as_slice(),
+            "{command}"
+        );
     }
     Ok(())
 }

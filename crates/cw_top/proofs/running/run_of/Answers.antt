@@ -13,7 +13,7 @@ returns-then-not-takes_words-clause-why g c =
     let is_false : c.takes_words.result ≡ false = search rules in
     let program = c.in_ok-compiled.compiled.program in
     let its = its_program c.args.command _ (source_of c.in_ok-compiled.compiled.ast) program c.in_ok-compiled.ensures.source c.in_ok-compiled.ensures.its in
-    of_no_use c.args.command _ program _ ⊥ its (λ t. both c.takes_words.result (c.takes_words.ensures.1 (subst (λ n. TakesWords program n) (sym c.word_count.ensures) t)) is_false)
+    of_no_use c.args.command _ program _ ⊥ its (λ t. both c.takes_words.result (c.takes_words.ensures.1 (subst (λ n. TakesWords program n) (sym c.word_count.ensures) t)) is_false) c.requires.runs
 
 pub returns-clause-run : goal.returns-clause-run
 returns-clause-run g c =

@@ -18,87 +18,128 @@ answer-requires-clause-ready g c =
     search (rules, is_ready)
 
 pub returns-clause-usage : goal.returns-clause-usage
-returns-clause-usage g c = let cause = rw c.in-Ok.ensures.exact at c.answer.ensures.cause in statuses.usage _ _ _ _ _ _ _ c.answer.ensures.status cause
+returns-clause-usage g c =
+    let status = rw c.in-Ok.ensures.exact at c.answer.ensures.status in
+    let cause = rw c.in-Ok.ensures.exact at c.answer.ensures.cause in statuses.usage _ _ _ _ _ _ _ status cause
 
 pub returns-clause-misused : goal.returns-clause-misused
 returns-clause-misused g c =
+    let status = rw c.in-Ok.ensures.exact at c.answer.ensures.status in
     let cause = rw c.in-Ok.ensures.exact at c.answer.ensures.cause in
     let run = rw c.in-Ok.ensures.exact at c.answer.ensures.run in
-    λ misfit no_read. statuses.misused _ _ _ _ _ _ _ c.answer.ensures.status cause run misfit no_read
+    λ misfit no_read. statuses.misused _ _ _ _ _ _ _ status cause run misfit no_read
 
 pub returns-clause-refuses : goal.returns-clause-refuses
 returns-clause-refuses g c =
+    let status = rw c.in-Ok.ensures.exact at c.answer.ensures.status in
     let cause = rw c.in-Ok.ensures.exact at c.answer.ensures.cause in
     let run = rw c.in-Ok.ensures.exact at c.answer.ensures.run in
-    λ fault refused no_read. statuses.refuses _ _ _ _ _ _ _ c.answer.ensures.status cause run fault refused no_read
+    let written = rw c.in-Ok.ensures.exact at c.answer.ensures.written in
+    λ fault refused no_read. statuses.refuses _ _ _ _ _ _ _ _ _ _ _ status cause run written fault refused no_read
 
 pub returns-clause-read_fault : goal.returns-clause-read_fault
-returns-clause-read_fault g c = statuses.read_fault _ _ _ _ _ _ _ c.answer.ensures.status c.answer.ensures.cause
+returns-clause-read_fault g c =
+    let status = rw c.in-Ok.ensures.exact at c.answer.ensures.status in
+    let cause = rw c.in-Ok.ensures.exact at c.answer.ensures.cause in
+    statuses.read_fault _ _ _ _ _ _ _ status cause
 
 pub returns-clause-write_fault : goal.returns-clause-write_fault
-returns-clause-write_fault g c = statuses.write_fault _ _ _ _ _ _ _ c.answer.ensures.status c.answer.ensures.cause
+returns-clause-write_fault g c =
+    let status = rw c.in-Ok.ensures.exact at c.answer.ensures.status in
+    let cause = rw c.in-Ok.ensures.exact at c.answer.ensures.cause in
+    statuses.write_fault _ _ _ _ _ _ _ status cause
 
 pub returns-clause-refused : goal.returns-clause-refused
-returns-clause-refused g c = let cause = rw c.in-Ok.ensures.exact at c.answer.ensures.cause in statuses.refused _ _ _ _ _ _ _ c.answer.ensures.status cause
+returns-clause-refused g c =
+    let status = rw c.in-Ok.ensures.exact at c.answer.ensures.status in
+    let cause = rw c.in-Ok.ensures.exact at c.answer.ensures.cause in statuses.refused _ _ _ _ _ _ _ status cause
+
+pub returns-clause-unreadable : goal.returns-clause-unreadable
+returns-clause-unreadable g c =
+    let status = rw c.in-Ok.ensures.exact at c.answer.ensures.status in
+    let cause = rw c.in-Ok.ensures.exact at c.answer.ensures.cause in
+    statuses.unreadable _ _ _ _ _ _ _ status cause
 
 pub returns-clause-complete : goal.returns-clause-complete
 returns-clause-complete g c =
+    let status = rw c.in-Ok.ensures.exact at c.answer.ensures.status in
     let cause = rw c.in-Ok.ensures.exact at c.answer.ensures.cause in
     let done = rw c.in-Ok.ensures.exact at c.answer.ensures.done in
-    statuses.complete _ _ _ _ _ _ _ c.answer.ensures.status cause (ready (map string_bytes c.args.words.now)) done
+    statuses.complete _ _ _ _ _ _ _ status cause (ready (map string_bytes c.args.words.now)) done
 
 pub returns-clause-replays : goal.returns-clause-replays
-returns-clause-replays g c = checks.replays _ _ _ c.answer.ensures.status
+returns-clause-replays g c =
+    let status = rw c.in-Ok.ensures.exact at c.answer.ensures.status in
+    checks.replays _ _ _ _ status
 
 pub returns-clause-source : goal.returns-clause-source
 returns-clause-source g c =
+    let status = rw c.in-Ok.ensures.exact at c.answer.ensures.status in
     let run = rw c.in-Ok.ensures.exact at c.answer.ensures.run in
-    λ other. of_source _ _ _ run (checks.replays _ _ _ c.answer.ensures.status other)
+    λ other. of_source _ _ _ run (checks.replays _ _ _ _ status other)
 
 pub returns-clause-disagrees : goal.returns-clause-disagrees
-returns-clause-disagrees g c = checks.disagrees _ _ _ c.answer.ensures.status
+returns-clause-disagrees g c =
+    let status = rw c.in-Ok.ensures.exact at c.answer.ensures.status in
+    checks.disagrees _ _ _ _ status
 
 pub returns-clause-silent : goal.returns-clause-silent
-returns-clause-silent g c = checks.silent _ _ _ _ _ _ c.answer.ensures.status c.answer.ensures.written.written
+returns-clause-silent g c =
+    let status = rw c.in-Ok.ensures.exact at c.answer.ensures.status in
+    let written = rw c.in-Ok.ensures.exact at c.answer.ensures.written in
+    checks.silent _ _ _ _ _ _ _ _ _ status written
 
 pub returns-clause-threads : goal.returns-clause-threads
 returns-clause-threads g c =
+    let status = rw c.in-Ok.ensures.exact at c.answer.ensures.status in
     let done = rw c.in-Ok.ensures.exact at c.answer.ensures.done in
-    checks.threads _ _ _ _ c.answer.ensures.status (ready (map string_bytes c.args.words.now)) done
+    checks.threads _ _ _ _ status (ready (map string_bytes c.args.words.now)) done
 
 pub returns-clause-finished : goal.returns-clause-finished
 returns-clause-finished g c =
+    let status = rw c.in-Ok.ensures.exact at c.answer.ensures.status in
     let run = rw c.in-Ok.ensures.exact at c.answer.ensures.run in
     let written = rw c.in-Ok.ensures.exact at c.answer.ensures.written in
-    statuses.finished _ _ _ _ _ _ _ _ _ c.answer.ensures.status run written
+    statuses.finished _ _ _ _ _ _ _ _ _ status run written
+
+pub returns-clause-broken : goal.returns-clause-broken
+returns-clause-broken g c =
+    let status = rw c.in-Ok.ensures.exact at c.answer.ensures.status in
+    let written = rw c.in-Ok.ensures.exact at c.answer.ensures.written in
+    statuses.broken _ _ _ _ _ _ _ _ _ status written
 
 pub returns-clause-one_memory : goal.returns-clause-one_memory
 returns-clause-one_memory g c =
+    let status = rw c.in-Ok.ensures.exact at c.answer.ensures.status in
     let run = rw c.in-Ok.ensures.exact at c.answer.ensures.run in
     let written = rw c.in-Ok.ensures.exact at c.answer.ensures.written in
-    one_memory _ _ _ _ _ _ _ _ _ c.answer.ensures.status run written
+    one_memory _ _ _ _ _ _ _ _ _ status run written
 
 pub returns-clause-spent : goal.returns-clause-spent
 returns-clause-spent g c =
+    let status = rw c.in-Ok.ensures.exact at c.answer.ensures.status in
     let run = rw c.in-Ok.ensures.exact at c.answer.ensures.run in
     let done = rw c.in-Ok.ensures.exact at c.answer.ensures.done in
-    spends _ _ _ _ _ c.answer.ensures.status run done
+    spends _ _ _ _ _ status run done
 
 pub returns-clause-several : goal.returns-clause-several
 returns-clause-several g c =
+    let status = rw c.in-Ok.ensures.exact at c.answer.ensures.status in
     let done = rw c.in-Ok.ensures.exact at c.answer.ensures.done in
-    statuses.several _ _ _ _ c.answer.ensures.status (ready (map string_bytes c.args.words.now)) done
+    statuses.several _ _ _ _ status (ready (map string_bytes c.args.words.now)) done
 
 pub returns-clause-spawns : goal.returns-clause-spawns
 returns-clause-spawns g c =
+    let status = rw c.in-Ok.ensures.exact at c.answer.ensures.status in
     let run = rw c.in-Ok.ensures.exact at c.answer.ensures.run in
     let done = rw c.in-Ok.ensures.exact at c.answer.ensures.done in
-    spawned _ _ _ _ _ c.answer.ensures.status run done
+    spawned _ _ _ _ _ status run done
 
 pub returns-clause-moves : goal.returns-clause-moves
 returns-clause-moves g c =
+    let status = rw c.in-Ok.ensures.exact at c.answer.ensures.status in
     let done = rw c.in-Ok.ensures.exact at c.answer.ensures.done in
-    moves _ _ _ _ c.answer.ensures.status done
+    moves _ _ _ _ status done
 
 pub returns-clause-unread : goal.returns-clause-unread
 returns-clause-unread g c = let taken = rw c.in-Ok.ensures.exact at c.answer.ensures.taken in pieces.TakesAtMost-none _ _ _ taken

@@ -3,7 +3,7 @@ use Rattle.cw_base.specs.declared.memory.OutOfMemory.{OutOfMemory}
 use Rattle.cw_words.specs.declared.command.Command.{Command}
 use Rattle.cw_words.specs.Words.{command_of}
 use Rattle.cw_words.proofs.Looks.{dash_refused}
-use Rattle.cw_words.proofs.Matches.{keep_entered, load_entered, none_entered, of_refused, races_entered, run_entered, sim_entered}
+use Rattle.cw_words.proofs.Matches.{check_entered, keep_entered, load_entered, none_entered, of_refused, races_entered, run_entered, sim_entered}
 use Rattle.cw_words.proofs.command.command_of.Goals.{in-OutOfMemory, in_default}
 use Rattle.cw_words.proofs.command.command_of.Goals as goal
 
@@ -54,4 +54,10 @@ pub returns-then-eq-5 : goal.returns-then-eq-5
 returns-then-eq-5 c = record {
   exact = subst (λ (e : Option Command). IfOk c.races_with.result (λ d. d ≡ e)) (sym (races_entered (map string_bytes c.args.words.now) c.in-Ok.matches c.subcommand.result (c.has_hyphen_alone.ensures.even c.if-has_hyphen_alone.false) c.in-Ok.ensures.ok c.subcommand.ensures.name c.subcommand.ensures.rows
       c.in-Some.name c.in-Some.found c.in-Some.is (sym c.eq.ensures ∙ c.if-eq.false) (sym c.eq-else-eq.ensures ∙ c.if-eq-2.false) (sym c.eq-else-eq-2.ensures ∙ c.if-eq-3.false) (sym c.eq-else-eq-3.ensures ∙ c.if-eq-4.false) (sym c.eq-else-eq-4.ensures ∙ c.if-eq-5.true))) c.races_with.ensures;
+}
+
+pub returns-then-eq-6 : goal.returns-then-eq-6
+returns-then-eq-6 c = record {
+  exact = c.check_with.ensures ∙ sym (check_entered (map string_bytes c.args.words.now) c.in-Ok.matches c.subcommand.result (c.has_hyphen_alone.ensures.even c.if-has_hyphen_alone.false) c.in-Ok.ensures.ok c.subcommand.ensures.name c.subcommand.ensures.rows
+      c.in-Some.name c.in-Some.found c.in-Some.is (sym c.eq.ensures ∙ c.if-eq.false) (sym c.eq-else-eq.ensures ∙ c.if-eq-2.false) (sym c.eq-else-eq-2.ensures ∙ c.if-eq-3.false) (sym c.eq-else-eq-3.ensures ∙ c.if-eq-4.false) (sym c.eq-else-eq-4.ensures ∙ c.if-eq-5.false) (sym c.eq-else-eq-5.ensures ∙ c.if-eq-6.true));
 }

@@ -2,7 +2,7 @@ use Rattle.std.proofs.Common.{◌≡◌, ◌∙◌, Bool, true, false, sym}
 use Rattle.cw_top.proofs.CommandRuns.{one_worker}
 use Rattle.cw_top.proofs.Statuses.{telling_cause}
 use Rattle.cw_top.proofs.Told.{sure}
-use Rattle.cw_top.proofs.top.do_command.Goals as goal
+use Rattle.cw_top.proofs.top.do_run.Goals as goal
 
 both : (b : Bool) → b ≡ true → b ≡ false → ⊥
 both b e h = cc
