@@ -10,6 +10,7 @@ use Rattle.cw_top.proofs.Ready.{ready}
 use Rattle.cw_top.proofs.Spawned.{spawned}
 use Rattle.cw_top.proofs.SpentMoves.{moves}
 use Rattle.cw_top.proofs.Statuses as statuses
+use Rattle.cw_top.proofs.Told.{nothing_told_by}
 use Rattle.cw_top.proofs.top.cwstm.Goals as goal
 
 pub answer-requires-clause-ready : goal.answer-requires-clause-ready
@@ -143,3 +144,6 @@ returns-clause-moves g c =
 
 pub returns-clause-unread : goal.returns-clause-unread
 returns-clause-unread g c = let taken = rw c.in-Ok.ensures.exact at c.answer.ensures.taken in pieces.TakesAtMost-none _ _ _ taken
+
+pub returns-in_default-clause-written : goal.returns-in_default-clause-written
+returns-in_default-clause-written g c = nothing_told_by _ _ _ _ _
