@@ -90,5 +90,5 @@ spends_run command kept status (note.Sheet f) left is run done seven = absurd is
 pub spends : (command : Option Command) (kept : Option Record) (status : ℕ) (n : Note) (left : Option (List ℕ)) → IsStatus command kept status n → IfSome kept (IsRunOf command left) → IfSome kept (IsDoneAs command) → status ≡ 7 → IsSomeAnd kept (IsSpentBy command)
 spends command kept status n left is run done seven = elim (run_or_check command kept status n is) [
   | inl of_run ↦ spends_run command kept status n left of_run run done seven
-  | inr of_check ↦ absurd ((none_of_runs status n of_check.2).2.0 seven)
+  | inr of_check ↦ absurd ((none_of_runs status n of_check.2).2 seven)
 ]

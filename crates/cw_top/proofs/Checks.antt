@@ -56,7 +56,7 @@ eight_run kept status (note.Sheet f) is e = absurd is
 eight : (command : Option Command) (kept : Option Record) (status : ℕ) (n : Note) → IsStatus command kept status n → status ≡ 8 → (n ≡ note.Nothing) × IsSomeAnd kept (λ r. IsReplayed r → ⊥)
 eight command kept status n is e = elim (run_or_check command kept status n is) [
   | inl of_run ↦ eight_run kept status n of_run e
-  | inr of_check ↦ absurd ((none_of_runs status n of_check.2).2.1 e)
+  | inr of_check ↦ absurd ((none_of_runs status n of_check.2).3 e)
 ]
 
 pub disagrees : (command : Option Command) (kept : Option Record) (status : ℕ) (n : Note) → IsStatus command kept status n → status ≡ 8 → IsSomeAnd kept (λ r. IsReplayed r → ⊥)
@@ -77,10 +77,10 @@ module _ (kept : Option Record) (status : ℕ) (n : Note) (left old new : Option
   nothing_written None is told e = of_run None told e
   nothing_written (Some (Run ws ls w p)) is told e = of_run (Some (Run ws ls w p)) told e
   nothing_written (Some (Sim ws ls w s p)) is told e = of_run (Some (Sim ws ls w s p)) told e
-  nothing_written (Some (Load tr w)) is told e = of_run (Some (Load tr w)) told e
+  nothing_written (Some (Load k w)) is told e = of_run (Some (Load k w)) told e
   nothing_written (Some (Keep ws ls w)) is told e = of_run (Some (Keep ws ls w)) told e
   nothing_written (Some (Races ws ls)) is told e = of_run (Some (Races ws ls)) told e
-  nothing_written (Some Check) is told e = absurd ((none_of_runs status n is.1).2.1 e)
+  nothing_written (Some Check) is told e = absurd ((none_of_runs status n is.1).3 e)
 
   pub silent : (command : Option Command) → IsStatus command kept status n → TellsBy command left kept status n old new before after → status ≡ 8 → (n ≡ note.Nothing) × Appends old new []
   silent command is told e = ((eight command kept status n is e).0, nothing_written command is told e)

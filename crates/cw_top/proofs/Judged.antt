@@ -110,7 +110,7 @@ check_ends status (note.Sheet f) left r w is cause no_r no_w = inr (inl is)
 -- a sheet that was judged is not refused
 judged_read : (left : Option (List ℕ)) (a : Audit) (fault : Note) → IfSome left (λ bytes. IsAuditOf bytes a) → IsSomeAnd left (λ bytes. sheet_refusal bytes ≡ Some fault) → ⊥
 judged_read None a fault its why = why
-judged_read (Some bytes) a fault (c, (read, is)) why = let none : sheet_refusal bytes ≡ None = ap of_sheet_reading read in cc
+judged_read (Some bytes) a fault (c, read, is) why = let none : sheet_refusal bytes ≡ None = ap of_sheet_reading read in cc
 
 same_unread : (left : Option (List ℕ)) (n fault : Note) → IsSomeAnd left (λ bytes. sheet_refusal bytes ≡ Some fault) → IfSome left (λ bytes. sheet_refusal bytes ≡ Some n) → n ≡ fault
 same_unread None n fault why is = absurd why

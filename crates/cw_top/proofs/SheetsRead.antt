@@ -1,5 +1,5 @@
 -- What is found of the bytes that were read is true of the whole source: either all of it was read, or it is too long for a sheet.
-use Rattle.std.proofs.Common.{◌≡◌, ◌<◌, ◌≤◌, ◌++◌, ◌∙◌, ℕ, Bool, true, false, List, [], length, Option, Some, None, Ok, Err, Result, IfSome, IsSomeAnd, refl, sym, subst, ap, append-nil, length-append, arith, rules, inl, inr}
+use Rattle.std.proofs.Common.{◌≡◌, ◌<◌, ◌≤◌, ◌++◌, ◌∙◌, ℕ, Bool, true, false, List, [], length, Option, Some, None, Ok, Err, Result, IfErr, IfSome, IsSomeAnd, refl, sym, subst, ap, append-nil, length-append, arith, rules, inl, inr}
 use Rattle.std.specs.Prelude.{if◌then◌else◌, nat_lt}
 use Rattle.std.proofs.lemmas.Bool.{cases_lt}
 use Rattle.cw_io.specs.Outside.{RunsDry, Takes}
@@ -36,7 +36,7 @@ short_by false rest c is = refl
 
 -- a sheet that was judged was read whole
 pub judged_short : (bytes : List ℕ) (a : Audit) → IsAuditOf bytes a → length bytes < most_sheet_bytes
-judged_short bytes a (c, (is, audit)) =
+judged_short bytes a (c, is, audit) =
     let fits : nat_lt 67108864 (length bytes) ≡ false = short_by (nat_lt 67108864 (length bytes)) _ c is in
     let few : length bytes ≤ 67108864 = search rules in
     omega (arith, few)
@@ -67,3 +67,7 @@ module _ (old new : Option (List ℕ)) (bytes : List ℕ) (takes : Takes old new
   ]
   unread_of r no_audit.OutOfMemory is = tt
   unread_of r (no_audit.Stopped s) is = absurd is
+
+  pub unread_result : (r : Type 0) (result : Result Audit NoAudit) → IfErr result (λ why. WhyUnread why bytes) → IfErr result (λ why. WhyNoAudit why r old)
+  unread_result r (Ok a) is = tt
+  unread_result r (Err why) is = unread_of r why is

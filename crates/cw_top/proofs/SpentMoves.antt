@@ -69,5 +69,5 @@ nothing_spent command kept none h = subst (λ (k : Option Record). IsSomeAnd k (
 pub moves : (command : Option Command) (kept : Option Record) (status : ℕ) (n : Note) → IsStatus command kept status n → IfSome kept (IsDoneAs command) → status ≡ 9 ↔ ((n ≡ note.Nothing) × IsSomeAnd kept (HasSpentMoves command))
 moves command kept status n is done = elim (run_or_check command kept status n is) [
   | inl of_run ↦ moves_run command kept status n of_run done
-  | inr of_check ↦ (λ nine. absurd ((none_of_runs status n of_check.2).2.2 nine), λ h. absurd (nothing_spent command kept of_check.1 h.1))
+  | inr of_check ↦ (λ nine. absurd ((none_of_runs status n of_check.2).4 nine), λ h. absurd (nothing_spent command kept of_check.1 h.1))
 ]

@@ -280,7 +280,7 @@ several_run command kept status (note.Sheet f) is ready done seven = absurd is
 pub several : (command : Option Command) (kept : Option Record) (status : ℕ) (n : Note) → IsStatus command kept status n → IfSome command IsReady → IfSome kept (IsDoneAs command) → status ≡ 7 → HasSeveralWorkers command
 several command kept status n is ready done seven = elim (run_or_check command kept status n is) [
   | inl of_run ↦ several_run command kept status n of_run ready done seven
-  | inr of_check ↦ absurd ((none_of_runs status n of_check.2).2.0 seven)
+  | inr of_check ↦ absurd ((none_of_runs status n of_check.2).2 seven)
 ]
 
 may_want : (co : Command) (status : ℕ) → status ≡ 1 → MayEndWith (Some co) status

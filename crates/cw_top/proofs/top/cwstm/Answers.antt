@@ -1,5 +1,9 @@
 use Rattle.cw_top.specs.Runs.{IsReady}
-use Rattle.std.proofs.Common.{map, rules, string_bytes, subst, sym}
+use Rattle.std.proofs.Common.{None, Option, map, rules, string_bytes, subst, sym}
+use Rattle.cw_record.specs.declared.record.Record.{Record}
+use Rattle.cw_words.specs.Words.{command_in}
+use Rattle.cw_top.specs.declared.outcome.Note.{Note}
+use Rattle.cw_top.specs.Audited.{TellsBy}
 use Rattle.std.specs.Prelude.{IfSome}
 use Rattle.cw_top.proofs.Budgets.{spends}
 use Rattle.cw_top.proofs.Checks as checks
@@ -10,6 +14,7 @@ use Rattle.cw_top.proofs.Ready.{ready}
 use Rattle.cw_top.proofs.Spawned.{spawned}
 use Rattle.cw_top.proofs.SpentMoves.{moves}
 use Rattle.cw_top.proofs.Statuses as statuses
+use Rattle.cw_top.proofs.Told.{nothing_told_by}
 use Rattle.cw_top.proofs.top.cwstm.Goals as goal
 
 pub answer-requires-clause-ready : goal.answer-requires-clause-ready
@@ -143,3 +148,13 @@ returns-clause-moves g c =
 
 pub returns-clause-unread : goal.returns-clause-unread
 returns-clause-unread g c = let taken = rw c.in-Ok.ensures.exact at c.answer.ensures.taken in pieces.TakesAtMost-none _ _ _ taken
+
+pub returns-in_default-clause-written : goal.returns-in_default-clause-written
+returns-in_default-clause-written g c =
+    let command = command_in c.args.words.now in
+    let left = g.S.Source.left c.args.source.now in
+    let old = g.K.Sink.written c.args.sink.now in
+    let tells = g.K.Sink.tells_for c.args.sink.now in
+    let status = c.without_run.result.status in
+    subst (λ (k : Option Record). TellsBy command left k status c.without_run.result.note old old tells tells) (sym c.without_run.ensures.none)
+    (subst (λ (n : Note). TellsBy command left None status n old old tells tells) (sym c.without_run.ensures.note) (nothing_told_by left old status tells command))
