@@ -1,8 +1,8 @@
 -- What is found of the bytes that were read is true of the whole source: either all of it was read, or it is too long for a sheet.
-use Rattle.std.proofs.Common.{◌≡◌, ◌<◌, ◌≤◌, ◌++◌, ◌∙◌, ℕ, Bool, true, false, List, [], length, Option, Some, None, Ok, Err, Result, IfErr, IfSome, IsSomeAnd, refl, sym, subst, ap, append-nil, length-append, arith, rules, inl, inr}
+use Rattle.std.proofs.Common.{◌≡◌, ◌<◌, ◌≤◌, ◌++◌, ◌∙◌, ℕ, Bool, true, false, List, [], length, Option, Some, None, Ok, Err, Result, IfSome, IsSomeAnd, refl, sym, subst, ap, append-nil, length-append, arith, rules, inl, inr}
 use Rattle.std.specs.Prelude.{if◌then◌else◌, nat_lt}
 use Rattle.std.proofs.lemmas.Bool.{cases_lt}
-use Rattle.cw_io.specs.Outside.{RunsDry, Takes}
+use Rattle.cw_io.specs.Outside.{Rose, RunsDry, Takes}
 use Rattle.cw_sheet.specs.Contents.{Contents}
 use Rattle.cw_sheet.specs.declared.sheet.SheetFault.{SheetFault}
 use Rattle.cw_sheet.specs.declared.sheet.SheetKind.TheVariants.{TooLong}
@@ -24,7 +24,7 @@ pub why_unread : (e : SheetRefusal) (bytes : List ℕ) → FailsWith e (sheet_re
 why_unread (refusal.Sheet f) bytes is = ap of_sheet_reading is
 why_unread refusal.OutOfMemory bytes is = tt
 
-too_long : SheetFault
+abbrev too_long : SheetFault
 too_long = record { kind = TooLong; line = 0 }
 
 is_too_long : (bytes : List ℕ) → most_sheet_bytes ≤ length bytes → sheet_refusal bytes ≡ Some (note.Sheet too_long)
@@ -68,6 +68,6 @@ module _ (old new : Option (List ℕ)) (bytes : List ℕ) (takes : Takes old new
   unread_of r no_audit.OutOfMemory is = tt
   unread_of r (no_audit.Stopped s) is = absurd is
 
-  pub unread_result : (r : Type 0) (result : Result Audit NoAudit) → IfErr result (λ why. WhyUnread why bytes) → IfErr result (λ why. WhyNoAudit why r old)
-  unread_result r (Ok a) is = tt
-  unread_result r (Err why) is = unread_of r why is
+  -- the same of a source that was read before
+  pub unread_later : (before after : ℕ) → before ≤ after → (why : NoAudit) → WhyUnread why bytes → WhyNoAudit why (Rose before after) old
+  unread_later before after later why is = unread_of (Rose before after) why is

@@ -36,7 +36,8 @@ fn audit_from<S: Source>(alloc: Global, source: &mut S) -> Result<Audit, NoAudit
     ensures once { RisesAtMost 1 (S.ends source.old) (S.ends source.new) }
 {
     let bytes = read_all(alloc, source, MOST_SHEET_BYTES)?;
-    audit_of(alloc, bytes.as_slice())
+    let audit = audit_of(alloc, bytes.as_slice())?;
+    Ok(audit)
 }
 
 fn audit_text(alloc: Global, audit: Audit) -> Result<Vec<u8>, OutOfMemory>
