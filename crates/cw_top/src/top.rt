@@ -148,9 +148,9 @@ fn answer<R: Threads + Wait + Sync, S: Source, K: Sink, G: Gate>(
 /// A run of several threads is written only once one memory has done the same in its order; status 8 says that it did not. Each of
 /// these threads calls the gate before it looks for a task of another one, and before each try of a begin, an access or a commit.
 ///
-/// The statuses are those of `Reply`. At most 1,048,577 bytes are read, one more than a text may have, and never more are asked
-/// for; of a sheet at most 67,108,865. Errors are looked for in this order: words, read, text, names, number of words, run, write; memory may run out
-/// anywhere.
+/// The statuses are those of `Reply`. At most 1,048,577 bytes are read, one more than a text may have, of a sheet 67,108,865, and
+/// never more are asked for. Errors are looked for in this order: words, read, text, names, number of words, run, write; memory may
+/// run out anywhere.
 pub fn cwstm<R: Threads + Wait + Sync, S: Source, K: Sink, G: Gate>(
     rt: &R,
     alloc: Global,
@@ -233,8 +233,8 @@ pub fn cwstm<R: Threads + Wait + Sync, S: Source, K: Sink, G: Gate>(
     // nothing.
     ensures once { RisesAtMost (most_ends (command_in words.now)) (S.ends source.old) (S.ends source.new) }
 
-    // The owed text was written, or a front of it if a write failed; nothing, if none is owed. A check owes its answer. Unless a write failed, a sink that goes
-    // on telling for at least as many bytes as the text has still tells, and goes on for the rest.
+    // The owed text was written, or a front of it if a write failed; nothing, if none is owed. A check owes its answer. Unless a write
+    // failed, a sink that goes on telling for at least as many bytes as the text has still tells, and goes on for the rest.
     ensures written { TellsBy (command_in words.now) (S.left source.old) result.kept result.status result.note (K.written sink.old) (K.written sink.new) (K.tells_for sink.old) (K.tells_for sink.new) }
 
     // Counts of faults never fall.
