@@ -15,7 +15,7 @@ wrong=0
 keep_run() {
   local text=$1
   shift
-  printf '%s' "$text" | "$program" keep --workers 1 --size 100000000 "$@" > sheet || [ $? = 6 ]
+  printf '%s' "$text" | "$program" keep --workers 1 --size 10000000 "$@" > sheet || [ $? = 6 ]
 }
 
 # keep_refused COUNT: writes the sheet of an access that is refused so often, by a block beside it, inside 2,000 blocks around both
@@ -42,7 +42,10 @@ sheet_of() {
     'forks in forks') keep_run 'fn f() { spawn { f(); } f(); } fn main() { f(); }' --fuel "$2" ;;
     'refusals inside 2,000 blocks') keep_refused "$2" ;;
     'blocks around 4,096 elements')
-      keep_run "cell a[4096]; fn t(i) { while i < 4096 { a[i] = i; i = i + 1; } } fn f(n) { atomic { if n { f(n - 1); } else { t(0); } } } fn main() { f($2 - 1); t(0); }" --fuel 1000000000
+      # a call begins 20 blocks, since at most 10,000 functions wait for each other
+      blocks=$(printf 'atomic { %.0s' {1..20})
+      ends=$(printf '} %.0s' {1..20})
+      keep_run "cell a[4096]; fn t(i) { while i < 4096 { a[i] = i; i = i + 1; } } fn f(n) { $blocks if n { f(n - 1); } else { t(0); } $ends } fn main() { f($2 / 20 - 1); t(0); }" --fuel 1000000000
       ;;
     'blocks that are given up') keep_run "language 2; cell c; fn f(n) { atomic { c = n; if n { f(n - 1); } cancel; } } fn main() { f($2 - 1); out c; }" --fuel 1000000000 ;;
   esac
