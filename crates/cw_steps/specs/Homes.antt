@@ -12,10 +12,12 @@ use Rattle.cw_steps.specs.declared.draw.Aim.TheVariants as aims
 use Rattle.cw_steps.specs.declared.draw.Home.{Home}
 use Rattle.cw_steps.specs.declared.draw.Home.TheVariants as home
 use Rattle.cw_steps.specs.declared.table.StrandToken.{StrandToken}
+use Rattle.cw_steps.specs.declared.view.Change.{Change}
 use Rattle.cw_steps.specs.declared.view.Key.{Key}
 use Rattle.cw_steps.specs.declared.view.Slot.{Slot}
 use Rattle.cw_steps.specs.declared.view.Slot.TheVariants as slot
-use Rattle.cw_steps.specs.Views.{newest_aim, newest_cell, newest_tier, newest_used, view_of, Holding, IsWhole}
+use Rattle.cw_steps.specs.Views.{newest_aim, newest_cell, newest_change, newest_tier, newest_used, view_of, Holding, IsWhole}
+use Rattle.cw_steps.specs.Words.{AreSameRows}
 
 -- in these columns, `f` is the left column of a fork that is split, or of one that is not
 abbrev pub IsForkThere : (split : Bool) → ColumnTable → (fork : ℕ) → Type 0
@@ -87,6 +89,14 @@ CellComesHome n m a lay (slot.Cell x) = IsOfCell n m × IsSomeAnd lay (λ y. Lea
 CellComesHome n m a lay (slot.Tier x) = Unit {0}
 CellComesHome n m a lay slot.Empty = Unit {0}
 
+-- What the slot holds now is what the words show: the tier that lay there with the same rows, or the one to which a change has
+-- come.
+abbrev pub IsAsShown : (lay : Option Traces) → Option Change → Slot → Type 0
+IsAsShown lay None (slot.Tier x) = IsSomeAnd lay (λ y. AreSameRows y x)
+IsAsShown lay (Some ch) (slot.Tier x) = (ch.even ≡ true) × AreSameRows ch.come x
+IsAsShown lay o (slot.Cell x) = Unit {0}
+IsAsShown lay o slot.Empty = Unit {0}
+
 -- The newest turn is that of slot `n`. What lies there is whole, and may come home with `m`.
 pub record MayGive (key : Key) (t : StrandToken) (n : ℕ) (m : Home) : Type 0 where
   pub lies : Slot
@@ -94,3 +104,4 @@ pub record MayGive (key : Key) (t : StrandToken) (n : ℕ) (m : Home) : Type 0 w
   pub whole : IsWhole key (view_of t).seen (newest_used (view_of t).turns) n lies
   pub tier : ComesHome (view_of t).fork (view_of t).phase (newest_aim (view_of t).turns) m (newest_tier (view_of t).turns) lies
   pub cell : CellComesHome n m (newest_aim (view_of t).turns) (newest_cell (view_of t).turns) lies
+  pub shown : IsAsShown (newest_tier (view_of t).turns) (newest_change (view_of t).turns) lies

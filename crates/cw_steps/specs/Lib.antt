@@ -1,4 +1,5 @@
 pub mod Places
+pub mod Words
 pub mod Totals
 pub mod Around
 pub mod Tracks

@@ -9,12 +9,16 @@ use Rattle.cw_log.specs.declared.token.Phase.TheVariants.{Going, Waiting, Over, 
 use Rattle.cw_stack.specs.Cells.{CellParts, entries_value}
 use Rattle.cw_trace.specs.Traces.{Traces}
 use Rattle.cw_trace.specs.Columns as columns
+use Rattle.cw_trace.specs.Labels.{AreLabels}
+use Rattle.cw_trace.specs.declared.tier.Row.{Row}
 use Rattle.cw_steps.specs.declared.draw.Draw.{Draw}
 use Rattle.cw_steps.specs.declared.draw.Draw.TheVariants as draw
 use Rattle.cw_steps.specs.declared.draw.Aim.{Aim}
 use Rattle.cw_steps.specs.declared.draw.Aim.TheVariants as aims
 use Rattle.cw_steps.specs.declared.draw.Home.{Home}
 use Rattle.cw_steps.specs.declared.draw.Home.TheVariants as home
+use Rattle.cw_steps.specs.declared.places.Place.{Place}
+use Rattle.cw_steps.specs.declared.view.Change.{Change}
 use Rattle.cw_steps.specs.declared.view.Key.{Key}
 use Rattle.cw_steps.specs.declared.view.Slot.{Slot}
 use Rattle.cw_steps.specs.declared.view.Slot.TheVariants as slot
@@ -23,6 +27,8 @@ use Rattle.cw_steps.specs.declared.view.Whereabouts.{Whereabouts}
 use Rattle.cw_steps.specs.declared.view.Turn.{Turn}
 use Rattle.cw_steps.specs.declared.view.View.{View}
 use Rattle.cw_steps.specs.Around.{caught_up, innermost, outwards}
+use Rattle.cw_steps.specs.Places.{places_of_column, word_of_place}
+use Rattle.cw_steps.specs.Words.{row_of, IsInRow, IsStored}
 use Rattle.cw_steps.specs.declared.table.Shared.{Shared}
 use Rattle.cw_steps.specs.declared.table.StrandToken.{StrandToken}
 
@@ -100,12 +106,14 @@ abbrev pub newest_tier : List Turn → Option Traces
 newest_tier [] = None
 newest_tier (t ∷ ts) = t.tier
 
--- The tier with the columns of one fork more, unless `more` is 0. The fork is made by the strand with this column, whose gap word
--- is `word`.
-abbrev pub tier_with : (more word column : ℕ) → Option Traces → Option Traces
-tier_with zero w c y = y
-tier_with (suc k) w c None = None
-tier_with (suc k) w c (Some x) = Some (record x { columns = columns.forked w c x.columns })
+-- the change of the tier that is under way, or shown and not drawn yet
+abbrev pub newest_change : List Turn → Option Change
+newest_change [] = None
+newest_change (t ∷ ts) = t.change
+
+-- no change of the tier is under way
+abbrev pub IsQuiet : View → Type 0
+IsQuiet v = newest_change v.turns ≡ None
 
 -- the aim for which the newest turn was taken; below, the cell that lay in its slot, with the access that was drawn since
 abbrev pub newest_aim : List Turn → Aim
@@ -125,10 +133,15 @@ abbrev pub with_access : Mark → (wrote : Bool) → ℤ → List Turn → List 
 with_access m w x [] = []
 with_access m w x (t ∷ ts) = record t { cell = cell_with m w x t.cell } ∷ ts
 
--- `more` more columns are in use, for a fork as in `tier_with`
-abbrev pub with_more : (more word column : ℕ) → List Turn → List Turn
-with_more k w c [] = []
-with_more k w c (t ∷ ts) = record t { tier = tier_with k w c t.tier; used = t.used + k } ∷ ts
+-- the turn with the tier that a change brought, if there is one
+abbrev pub with_come : Option Change → Turn → Turn
+with_come None t = t
+with_come (Some ch) t = record t { tier = Some ch.come; change = None }
+
+-- `more` more columns are in use, by the tier that was shown
+abbrev pub with_more : (more : ℕ) → List Turn → List Turn
+with_more k [] = []
+with_more k (t ∷ ts) = record (with_come t.change t) { used = t.used + k } ∷ ts
 
 -- ## What lies in the slots
 
@@ -229,7 +242,7 @@ coming_after draw.Begin old = old
 coming_after (draw.End aborted) old = old
 
 abbrev pub turns_after : Draw → (number : ℕ) → View → List Turn
-turns_after (draw.Fork left right gap) n v = with_more (columns_for left right) v.word v.column v.turns
+turns_after (draw.Fork left right gap) n v = with_more (columns_for left right) v.turns
 turns_after (draw.Access c wrote x) n v = with_access (record { strand = v.column; stamp = n }) wrote x v.turns
 turns_after (draw.Out x) n v = v.turns
 turns_after (draw.Cancel back) n v = v.turns
@@ -282,6 +295,21 @@ drew_view d behind second n v = record v {
   turns = turns_after d n v;
 }
 
+-- the columns of a fork were shown, and the fork is not drawn yet
+pub record IsShown (word column : ℕ) (ts : List Turn) : Type 0 where
+  pub lay : Traces
+  pub lies : newest_tier ts ≡ Some lay
+  pub change : Change
+  pub there : newest_change ts ≡ Some change
+  pub even : change.even ≡ true
+  pub forked : change.come.columns ≡ columns.forked word column lay.columns
+
+-- A fork with two columns was shown before it is drawn, by the strand with this column, whose gap word is `word`. Before an inline
+-- fork nothing was changed.
+abbrev pub IsShownAhead : (more word column : ℕ) → List Turn → Type 0
+IsShownAhead zero w c ts = newest_change ts ≡ None
+IsShownAhead (suc k) w c ts = IsShown w c ts
+
 -- The two columns of a fork are the next ones. Both strands use the gap of the strand that forks, or that of the left one if its
 -- gap word shows a block. An inline fork, made if there is no room for two columns, keeps the strand's column and gap. The fork
 -- needs the tier's turn, taken for a fork.
@@ -294,6 +322,7 @@ pub record CanFork (key : Key) (v : View) (left right gap : ℕ) : Type 0 where
   pub within : gap < newest_used v.turns + columns_for left right
   pub full : left ≡ right → key.columns < newest_used v.turns + 2
   pub gap_used : gap ≡ (if left == right then v.gap else if v.word == 0 then v.gap else left)
+  pub shown : IsShownAhead (columns_for left right) v.word v.column v.turns
 
 -- An access needs the turn of its cell, taken for an access. A read needs the value that the cell has.
 pub record CanAccess (key : Key) (v : View) (c : ℕ) (wrote : Bool) (x : ℤ) : Type 0 where
@@ -318,7 +347,7 @@ tier_of (slot.Cell x) = None
 tier_of slot.Empty = None
 
 abbrev pub turn_for : (n : ℕ) → Aim → Slot → (used : ℕ) → Turn
-turn_for n aim y used = record { slot = n; aim = aim; cell = cell_in y; tier = tier_of y; used = used }
+turn_for n aim y used = record { slot = n; aim = aim; cell = cell_in y; tier = tier_of y; used = used; change = None }
 
 -- after a take: the clock showed `clock`, and `y` lay in the slot
 abbrev pub took_view : (n : ℕ) → Aim → Slot → (used clock : ℕ) → View → View
@@ -352,6 +381,85 @@ phase_home (home.Early before used) x = x
 
 abbrev pub gave_view : Home → View → View
 gave_view h v = record v { gap = gap_home h v.column v.gap; split = split_home h v.split; phase = phase_home h v.phase; turns = older v.turns }
+
+-- ## Changes of the tier
+-- Whoever has the tier's turn makes the version odd, stores the rows that a change touches, and makes it even.
+
+abbrev pub with_change : Option Change → List Turn → List Turn
+with_change o [] = []
+with_change o (t ∷ ts) = record t { change = o } ∷ ts
+
+-- a change to `come` may begin: no other is under way, and the labels of the tier that comes go in the order of its marks
+pub record CanChange (key : Key) (v : View) (come : Traces) : Type 0 where
+  pub turn : newest_slot v.turns ≡ Some (cells_of key)
+  pub quiet : IsQuiet v
+  pub few : columns.used come.columns ≤ key.columns
+  pub labels : AreLabels come.columns come.labels
+
+-- after the version was made odd for a change to `come`
+abbrev pub odd_view : (come : Traces) → View → View
+odd_view come v = record v { turns = with_change (Some (record { come = come; stored = []; even = false })) v.turns }
+
+-- a change is under way, and the version is odd
+pub record IsUnderWay (key : Key) (v : View) : Type 0 where
+  pub turn : newest_slot v.turns ≡ Some (cells_of key)
+  pub change : Change
+  pub there : newest_change v.turns ≡ Some change
+  pub odd : change.even ≡ false
+
+-- the word belongs to a column in use of the tier that comes, and this tier has the value there
+pub record CanStore (key : Key) (v : View) (at : Place) (value : ℕ) : Type 0 where
+  pub under_way : IsUnderWay key v
+  pub column : ℕ
+  pub used : column < columns.used under_way.change.come.columns
+  pub low : column < key.columns
+  pub row : IsInRow column (row_of under_way.change.come column) at value
+
+-- the row is that of a column in use of the tier that comes
+pub record CanStoreRow (key : Key) (v : View) (column : ℕ) (row : Row) : Type 0 where
+  pub under_way : IsUnderWay key v
+  pub used : column < columns.used under_way.change.come.columns
+  pub low : column < key.columns
+  pub row : row ≡ row_of under_way.change.come column
+
+abbrev pub stored_in : (word : ℕ) → Option Change → Option Change
+stored_in w None = None
+stored_in w (Some ch) = Some (record ch { stored = w ∷ ch.stored })
+
+abbrev pub with_stored : (word : ℕ) → List Turn → List Turn
+with_stored w [] = []
+with_stored w (t ∷ ts) = record t { change = stored_in w t.change } ∷ ts
+
+-- after one word was stored, and after some were
+abbrev pub stored_view : (word : ℕ) → View → View
+stored_view w v = record v { turns = with_stored w v.turns }
+
+abbrev pub stored_all : (cells columns : ℕ) → List Place → View → View
+stored_all cells columns [] v = v
+stored_all cells columns (p ∷ ps) v = stored_all cells columns ps (stored_view (word_of_place cells columns p) v)
+
+-- after the row of a column was stored
+abbrev pub stored_row : Key → (column : ℕ) → View → View
+stored_row key i v = stored_all (cells_of key) key.columns (places_of_column i) v
+
+-- a change may end: each row that it touches was stored
+pub record CanMakeEven (key : Key) (v : View) : Type 0 where
+  pub under_way : IsUnderWay key v
+  pub lay : Traces
+  pub lies : newest_tier v.turns ≡ Some lay
+  pub stored : IsStored (cells_of key) key.columns lay under_way.change
+
+abbrev pub made_even : Option Change → Option Change
+made_even None = None
+made_even (Some ch) = Some (record ch { even = true })
+
+abbrev pub with_even : List Turn → List Turn
+with_even [] = []
+with_even (t ∷ ts) = record t { change = made_even t.change } ∷ ts
+
+-- after the version was made even
+abbrev pub even_view : View → View
+even_view v = record v { turns = with_even v.turns }
 
 -- ## Gap words and halts
 
@@ -469,9 +577,18 @@ set_stop h st me n me' = (n ≡ 1) × (me' ≡ (halted_view st.word h me.0, me.1
 abbrev pub told : Step Slot → Me Slot View → ℕ → Me Slot View → Type 0
 told st me n me' = me' ≡ (told_view st.word n me.0, me.1)
 
--- the rule says nothing yet of what a gap word means
+-- the rule says nothing yet of what a gap word or a word of a column means
 abbrev pub found : Step Slot → Me Slot View → ℕ → Me Slot View → Type 0
 found st me n me' = me' ≡ (noted_view st.word n me.0, me.1)
+
+abbrev pub made_odd : (come : Traces) → Step Slot → Me Slot View → ℕ → Me Slot View → Type 0
+made_odd come st me n me' = me' ≡ (odd_view come me.0, me.1)
+
+abbrev pub stored : Step Slot → Me Slot View → ℕ → Me Slot View → Type 0
+stored st me n me' = me' ≡ (stored_view st.word me.0, me.1)
+
+abbrev pub evened : Step Slot → Me Slot View → ℕ → Me Slot View → Type 0
+evened st me n me' = me' ≡ (even_view me.0, me.1)
 
 -- it owns fewer than 2 ^ 31 columns
 abbrev pub weighed : Step Slot → Me Slot View → ℕ → Me Slot View → Type 0

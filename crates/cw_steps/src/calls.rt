@@ -7,7 +7,7 @@ ghost use Rattle.cw_steps.specs.Places as places;
 ghost use Rattle.cw_steps.specs.Stands.{brought_token, drawn_token, token_of, EndsBlock};
 ghost use Rattle.cw_steps.specs.declared.draw.Home.TheVariants as home_of;
 ghost use Rattle.cw_steps.specs.declared.view.Slot.TheVariants as slot_of;
-ghost use Rattle.cw_steps.specs.Views.{cells_of, cell_in, drew_view, gave_view, held_by, key_of, newest_slot, newest_used, slot_with, view_of, CanDraw, Holding, IsTokenOf, IsWhole, LeavesIt, TakesIt};
+ghost use Rattle.cw_steps.specs.Views.{cells_of, cell_in, drew_view, gave_view, held_by, key_of, newest_slot, newest_used, slot_with, view_of, CanDraw, Holding, IsQuiet, IsTokenOf, IsWhole, LeavesIt, TakesIt};
 
 use crate::draw::{Aim, Draw, Home};
 use crate::law::{Drawing, Draws, Gives, Giving, Takes, Taking, TokenSeat, Words};
@@ -114,6 +114,7 @@ impl Shared {
     pub fn take(&self, token: &mut StrandToken, slot: u32, aim: Aim) -> bool
         requires table { IsTokenOf self.now token.old }
         requires there { slot ≤ cells_of (key_of self.now) }
+        requires quiet { IsQuiet (view_of token.old) }
         ensures table { IsTokenOf self.now token.new }
         ensures taken { result ≡ true → TakesIt (key_of self.now) aim slot token.old.seat.me token.new.seat.me }
         ensures refused { result ≡ false → LeavesIt (places.turn_word slot) token.old.seat.me token.new.seat.me }

@@ -187,7 +187,49 @@ impl Play<Slot, View> for Tells {
     ghost then = { told };
 }
 
-/// A look at a gap word.
+/// The tier to which a change comes. Each call picks it.
+pub(crate) trait Changing {
+    ghost use Rattle.cw_trace.specs.Traces.{Traces};
+
+    ghost come: { Traces };
+}
+
+impl Changing for Brand {
+    ghost use Rattle.std.specs.Prelude.{[]};
+    ghost use Rattle.cw_trace.specs.Columns.{first_tier};
+
+    ghost come = { record { columns = first_tier 0; labels = []; touched = [] } };
+}
+
+pub struct MakesOdd<W> {
+    of: PhantomData<W>,
+}
+
+impl<W: Changing> Play<Slot, View> for MakesOdd<W> {
+    ghost use Rattle.cw_steps.specs.Views.{made_odd};
+
+    ghost then = { made_odd W.come };
+}
+
+/// A word of a column is written.
+pub struct Stores;
+
+impl Play<Slot, View> for Stores {
+    ghost use Rattle.cw_steps.specs.Views.{stored};
+
+    ghost then = { stored };
+}
+
+/// The version is made even.
+pub struct Evens;
+
+impl Play<Slot, View> for Evens {
+    ghost use Rattle.cw_steps.specs.Views.{evened};
+
+    ghost then = { evened };
+}
+
+/// A look at a gap word, at a word of a column or at the version.
 pub struct Finds;
 
 impl Play<Slot, View> for Finds {

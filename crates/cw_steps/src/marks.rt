@@ -1,14 +1,14 @@
-//! Gap words, and the stop flag.
-ghost use Rattle.std.specs.Prelude.{◌≡◌, ℕ, ◌+◌, ◌<◌, nat_lt, None};
+//! Gap words, the stop flag, and looks at words.
+ghost use Rattle.std.specs.Prelude.{◌≡◌, ℕ, ◌+◌, ◌<◌, nat_lt};
 ghost use Rattle.cw_tree.specs.Nodes.{stamp_of};
 ghost use Rattle.cw_log.specs.Tokens as tokens;
 ghost use Rattle.cw_steps.specs.Stands.{token_of};
 ghost use Rattle.cw_steps.specs.Tracks.{track_of, with_word};
 ghost use Rattle.cw_steps.specs.Places as places;
-ghost use Rattle.cw_steps.specs.Views.{cells_of, halted_view, held_by, key_of, marked_view, noted_view, told_view, view_of, IsTokenOf};
+ghost use Rattle.cw_steps.specs.Views.{cells_of, halted_view, held_by, key_of, marked_view, noted_view, told_view, view_of, IsQuiet, IsTokenOf};
 
 use crate::law::{Finds, Halting, Halts, Marking, Marks, Tells, TokenSeat, Words};
-use crate::places::{Place, gap_word, stop_word};
+use crate::places::{Place, gap_word, stop_word, word_of_place};
 use crate::table::{Shared, StrandToken};
 use cw_log::Stop;
 use cw_order::Steps;
@@ -92,6 +92,7 @@ impl Shared {
     /// Sets the stop flag, and keeps `halt` in the token.
     pub fn stop(&self, token: &mut StrandToken, halt: Halt)
         requires table { IsTokenOf self.now token.old }
+        requires quiet { IsQuiet (view_of token.old) }
         ensures table { IsTokenOf self.now token.new }
         ensures view { view_of token.new ≡ halted_view (places.stop_word (cells_of (key_of self.now))) halt (view_of token.old) }
         ensures slots { held_by token.new ≡ held_by token.old }
@@ -115,6 +116,7 @@ impl Shared {
     /// Whether the stop flag is set. It is set only once some token has halted.
     pub fn is_stopped(&self, token: &mut StrandToken) -> bool
         requires table { IsTokenOf self.now token.old }
+        requires quiet { IsQuiet (view_of token.old) }
         ensures table { IsTokenOf self.now token.new }
         ensures view { (found : ℕ) × (result ≡ nat_lt 0 found) × (view_of token.new ≡ told_view (places.stop_word (cells_of (key_of self.now))) found (view_of token.old)) }
         ensures slots { held_by token.new ≡ held_by token.old }
@@ -127,8 +129,8 @@ impl Shared {
         found > 0
     }
 
-    /// Reads the word `at`, and counts the read. Nothing is known of its value except that it was found there: the rule does not
-    /// speak of gap words yet.
+    /// Reads the word `at`, and counts the read. `version` is the version that the caller goes by, if it goes by one. Nothing is known
+    /// of the value except that it was found there: the rule does not speak of gap words and rows yet.
     pub fn load<K: Ledger>(
         &self,
         token: &mut StrandToken,
@@ -138,9 +140,8 @@ impl Shared {
     ) -> u64
         requires table { IsTokenOf self.now token.old }
         requires there { places.IsThere (key_of self.now).columns at }
-        requires version { version ≡ None }
         ensures table { IsTokenOf self.now token.new }
-        ensures view { view_of token.new ≡ noted_view (places.word_of_place (cells_of (key_of self.now)) at) result (view_of token.old) }
+        ensures view { view_of token.new ≡ noted_view (places.word_of_place (cells_of (key_of self.now)) (key_of self.now).columns at) result (view_of token.old) }
         ensures slots { held_by token.new ≡ held_by token.old }
         ensures track { token.new.track ≡ token.old.track }
         ensures token { token_of token.new ≡ token_of token.old }
@@ -149,8 +150,7 @@ impl Shared {
         let _ = version;
         looks.tick();
         let StrandToken { seat, .. } = token;
-        let Place::Gap(gap) = at;
-        let word = gap_word(self.cells, gap);
+        let word = word_of_place(self.cells, self.columns, at);
         self.table.shared.load::<Finds>(seat, word)
     }
 }

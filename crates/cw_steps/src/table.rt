@@ -16,7 +16,9 @@ use cw_log::Stop;
 pub struct Shared {
     pub(crate) table: BoardTable,
     pub(crate) cells: u32,
+    pub(crate) columns: u32,
     ghost cell_count: { cells ≡ length table.shared.key.first },
+    ghost column_count: { columns ≡ table.shared.key.columns },
     ghost words: { table.shared.table_id.words ≡ all_words (length table.shared.key.first) table.shared.key.columns },
     ghost slots: { table.shared.table_id.slots ≡ suc (length table.shared.key.first) },
 }

@@ -62,15 +62,24 @@ pub struct WordNote {
     pub value: u64,
 }
 
+/// A change of the tier that the holder of its lock makes: the tier that comes, the words stored since the version was made odd, and
+/// whether the version is even since. Ghost state, never constructed at run time.
+pub struct Change {
+    pub come: Tier,
+    pub stored: Seq<u64>,
+    pub even: bool,
+}
+
 /// A lock that a seat holds: its slot, why it was acquired, and what lay there, with the accesses or columns drawn since. `used` is
-/// the number of columns in use with which the tier has to come home, if the lock is the tier's. Ghost state, never constructed at
-/// run time.
+/// the number of columns in use with which the tier has to come home, if the lock is the tier's, and `change` what is under way
+/// there. Ghost state, never constructed at run time.
 pub struct Turn {
     pub slot: u64,
     pub aim: Aim,
     pub cell: Option<Cell>,
     pub tier: Option<Tier>,
     pub used: u64,
+    pub change: Option<Change>,
 }
 
 /// What a query found in the way of an access. Ghost state, never constructed at run time.
