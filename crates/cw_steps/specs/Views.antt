@@ -420,7 +420,7 @@ pub record CanStoreRow (key : Key) (v : View) (column : ℕ) (row : Row) : Type 
   pub under_way : IsUnderWay key v
   pub used : column < columns.used under_way.change.come.columns
   pub low : column < key.columns
-  pub row : row ≡ row_of under_way.change.come column
+  pub same : row ≡ row_of under_way.change.come column
 
 abbrev pub stored_in : (word : ℕ) → Option Change → Option Change
 stored_in w None = None

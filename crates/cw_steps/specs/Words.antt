@@ -36,8 +36,8 @@ abbrev pub HasStored : (cells columns : ℕ) → (stored : List ℕ) → (column
 HasStored cells columns stored i = All (λ (p : Place). Contains stored (word_of_place cells columns p)) (places_of_column i)
 
 -- each column in use of the tier that comes was stored, or did not change
-abbrev pub IsStored : (cells columns : ℕ) → (lay : Traces) → Change → Type 0
-IsStored cells columns lay ch = (i : ℕ) → i < columns.used ch.come.columns → HasStored cells columns ch.stored i ⊎ IsUntouched lay ch.come i
+abbrev pub IsStored : (cells limit : ℕ) → (lay : Traces) → Change → Type 0
+IsStored cells limit lay ch = (i : ℕ) → i < columns.used ch.come.columns → HasStored cells limit ch.stored i ⊎ IsUntouched lay ch.come i
 
 -- both tiers show the same words
 pub record AreSameRows (x y : Traces) : Type 0 where
