@@ -1,4 +1,4 @@
--- What a conflict tells, but for the moment at which it came.
+-- What a conflict tells: who met, what has to roll back, and the newest accesses of the cell. When it came is in `Moments`.
 use Rattle.std.specs.Prelude.{◌≡◌, ℕ, ◌≤◌, ◌++◌, [], ◌∷◌, ◌&&◌, not, All, IsTrue, List, length, option_map}
 use Rattle.std.specs.List.Sorted.{IsStrictlyIncreasing}
 use Rattle.cw_tree.specs.declared.node.Node.{Node}

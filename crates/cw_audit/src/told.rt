@@ -50,7 +50,7 @@ impl Tables {
     }
 }
 
-/// Returns whether a conflict is right about this last access and this block, but for the moment at which it came.
+/// Returns whether all that a conflict tells is right, given its last access and its block as nodes. Its moment is left to `has_moment`.
 pub(crate) fn is_told(
     tree: &Tree,
     tables: &Tables,

@@ -28,20 +28,20 @@ abbrev pub audit_status : Audit → ℕ
 audit_status Sound = 0
 audit_status (Broken part) = 11
 
--- The answer is owed once there is one. A write of it may have failed.
+-- The text of the answer, if the check has answered, even if a write of it failed. Otherwise there is none.
 abbrev pub answer_owed : Note → Audit → Option (List ℕ)
 answer_owed note.Nothing a = Some (audit_text a)
 answer_owed note.Write a = Some (audit_text a)
 answer_owed n a = None
 
--- The status is that of the answer. The answer was written, or a front of it if the write failed; if none is owed, nothing was written.
--- Unless a write failed, a sink goes on telling.
+-- The status is that of the answer. The text of the answer was written, or its first bytes if the write failed. If the check has not
+-- answered, nothing was written. Unless a write failed, the sink still tells what it got.
 pub record TellsAnswer (a : Audit) (status : ℕ) (n : Note) (old new : Option (List ℕ)) (before after : ℕ → Type 0) : Type 0 where
   pub is_status : n ≡ note.Nothing → status ≡ audit_status a
   pub written : Writes (answer_owed n a) n old new
   pub tells : status ≢ 4 → StillTells (answer_owed n a) before after old new
 
--- An answer was told. If it is owed, it is that of the sheet.
+-- The text of some answer was written. If the check has answered, it is the answer to the sheet.
 pub record TellsAudit (left : Option (List ℕ)) (status : ℕ) (n : Note) (old new : Option (List ℕ)) (before after : ℕ → Type 0) : Type 0 where
   pub answer : Audit
   pub its : HasAnswered (Some Check) n → IfSome left (λ bytes. IsAuditOf bytes answer)
