@@ -55,17 +55,6 @@ pub record IsHolding (b : Board) (n : ℕ) (y : Slot) (t u : StrandToken) : Type
   pub track : u.track ≡ t.track
   pub token : token_of u ≡ token_of t
 
--- Since it was `t`, the token took the tier's turn beside those that it had, and `y` lies there now.
-pub record HasTierOver (b : Board) (y : Slot) (t u : StrandToken) : Type 0 where
-  pub table : IsTokenOf b.shared u
-  pub turn : newest_slot (view_of u).turns ≡ Some (cells_in b)
-  pub older : older (view_of u).turns ≡ (view_of t).turns
-  pub slots : held_by u ≡ (cells_in b, y) ∷ held_by t
-  pub later : (view_of t).seen ≤ (view_of u).seen
-  pub rest : at_rest (view_of u) ≡ at_rest (view_of t)
-  pub track : u.track ≡ t.track
-  pub token : token_of u ≡ token_of t
-
 -- It has the turn of the tier, whose columns in use are as many as that turn says. Its own column and gap are among them.
 pub record HasTier (b : Board) (y : Slot) (u : StrandToken) : Type 0 where
   pub few : newest_used (view_of u).turns ≤ columns_of b

@@ -8,12 +8,12 @@ ghost use Rattle.cw_board.specs.Victims.{outermost_first, IsBarrier, IsBarrierAm
 
 use crate::Board;
 use crate::asking::{Moved, settled};
+use crate::turns::pause;
 use cw_log::Above;
 use cw_order::Steps;
 use cw_steps::StrandToken;
 use cw_trace::Verdict;
 use cw_tree::Mark;
-use std::hint::spin_loop;
 use std::marker::Brand;
 use std::sync::Wait;
 use std::sync::ledger::{Blank, Ledger};
@@ -134,11 +134,12 @@ impl Board {
         ensures read { HasRead token.old token.new }
         ensures found { IfSome result (λ x. IsBarrierAmong self.now last token.old (noted_since token.old token.new) x.block x.victim) }
     {
+        let mut tries = 0;
         for _ in rt.forever() {
             if let Ok(found) = self.judge(token, last) {
                 return found;
             }
-            spin_loop();
+            tries = pause(tries);
         }
         unreachable!()
     }
