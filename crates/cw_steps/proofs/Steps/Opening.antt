@@ -17,7 +17,7 @@ use Rattle.cw_steps.specs.declared.view.View.{View}
 use Rattle.cw_tree.specs.declared.access.Entry.{Entry}
 use Rattle.cw_steps.specs.Places.{all_words, column_words}
 use Rattle.cw_steps.specs.Views.{cells_of, fresh_slot, root_view, IsTierOf}
-use Rattle.cw_steps.specs.Rule.{Holds, IsCellHome, IsTierHome}
+use Rattle.cw_steps.specs.Rule.{Holds, IsCellHome}
 
 zeros : (n i : ℕ) → slice_index (replicate n 0) i ≡ 0
 zeros zero i = refl

@@ -1,4 +1,4 @@
-use Rattle.std.proofs.Common.{rules, sym, subst}
+use Rattle.std.proofs.Common.{rules}
 use Rattle.cw_steps.proofs.Steps.Changing.{makes_odd}
 use Rattle.cw_steps.proofs.versions.make_odd_as.Goals as goal
 
