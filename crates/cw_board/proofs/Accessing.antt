@@ -23,14 +23,15 @@ use Rattle.cw_steps.specs.declared.view.View.{View}
 use Rattle.cw_steps.specs.declared.view.Whereabouts.{Whereabouts}
 use Rattle.cw_steps.specs.Stands.{brought_token, token_of}
 use Rattle.cw_steps.specs.Tracks.{kind_of_access, HasRoom}
-use Rattle.cw_steps.specs.Homes.{CellComesHome, ComesHome, IsAsItLay, LeavesCell, MayGive}
-use Rattle.cw_steps.specs.Views.{cell_with, drew_view, gave_view, held_by, key_of, newest_aim, newest_cell, newest_slot, newest_tier, older, view_of, with_access, CanAccess, IsLowCell, IsTokenOf}
+use Rattle.cw_steps.specs.Homes.{CellComesHome, ComesHome, IsAsItLay, IsAsShown, LeavesCell, MayGive}
+use Rattle.cw_steps.specs.Views.{cell_with, drew_view, gave_view, held_by, key_of, newest_aim, newest_cell, newest_change, newest_slot, newest_tier, older, view_of, with_access, CanAccess, IsLowCell, IsTokenOf}
 use Rattle.cw_board.specs.declared.board.Board.{Board}
 use Rattle.cw_board.specs.Boards.{cells_in, columns_of, IsOf}
 use Rattle.cw_board.specs.Sound.{IsSoundToken}
 use Rattle.cw_board.specs.Turns.{HasCell, IsHolding}
 use Rattle.cw_board.proofs.Boards.{is_now}
 use Rattle.cw_board.proofs.Holding.{as_it_lay, lists_held}
+use Rattle.cw_board.proofs.Showing.{cell_shown}
 use Rattle.cw_board.proofs.Sound.{around_low, sound_made, sound_later, sound_refused}
 
 low_at : (P : Entry → Type 0) (es : List Entry) (k : ℕ) → All P es → IfSome (slice_get es k) P
@@ -125,6 +126,7 @@ module _ (b : Board) (n stamp : ℕ) (wrote : Bool) (x : ℤ) (y z : Slot) (t u 
             (subst (λ (w : View). CellComesHome n home.Plain (newest_aim w.turns) (newest_cell w.turns) (slot.Cell left)) (sym view)
             (subst (λ (a : Aim). CellComesHome n home.Plain a (newest_cell (with_access m wrote x ts)) (slot.Cell left)) (sym (aim_access m wrote x ts))
             (subst (λ o. CellComesHome n home.Plain (newest_aim ts) o (slot.Cell left)) (sym (cell_access m wrote x ts)) comes)));
+        shown = subst (IsAsShown (newest_tier (view_of v).turns) (newest_change (view_of v).turns)) (sym is) (cell_shown (newest_tier (view_of v).turns) (newest_change (view_of v).turns) left);
       }
 
   pub access_is : (v' : StrandToken) → IsTokenOf b.shared v' → view_of v' ≡ gave_view home.Plain (view_of v) → held_by v' ≡ rest (held_by v) → v'.track.room ≡ u.track.room

@@ -14,7 +14,7 @@ use Rattle.cw_steps.specs.declared.view.Whereabouts.{Whereabouts}
 use Rattle.cw_steps.specs.Tracks.{state_of_end, track_of, HasRoom, IsBeside, WaitsBeside}
 use Rattle.cw_steps.specs.Stands.{open_forks, token_of}
 use Rattle.cw_steps.specs.Around.{caught_up, outwards}
-use Rattle.cw_steps.specs.Views.{cells_of, held_by, root_view, view_of, drew_view, marked_view, joined_view, both_view, stood_at, further_out, share, IsTokenOf}
+use Rattle.cw_steps.specs.Views.{cells_of, held_by, newest_change, root_view, view_of, drew_view, marked_view, joined_view, both_view, stood_at, further_out, share, IsQuiet, IsTokenOf}
 use Rattle.cw_steps.specs.declared.draw.Draw.TheVariants as draw
 use Rattle.cw_tree.specs.declared.node.Kind.TheVariants as kind
 use Rattle.cw_log.specs.declared.token.Side.{Side}
@@ -45,6 +45,10 @@ is_now b t w x table view token slots room here turns gap gaps lists sound = rec
   room = room;
   sound = subst (λ (u : View). IsSoundToken (token_of t) u.room u.seen) (sym view) (subst (λ y. IsSoundToken y w.room w.seen) (sym token) sound);
 }
+
+-- a token between two calls changes nothing
+pub at_rest_quiet : (b : Board) (t : StrandToken) → IsOf b t → IsQuiet (view_of t)
+at_rest_quiet b t h = ap newest_change h.turns
 
 root_sound : IsSoundToken root_token root_view.room root_view.seen
 root_sound = record {

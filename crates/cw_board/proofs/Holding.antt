@@ -19,8 +19,8 @@ use Rattle.cw_steps.specs.declared.table.StrandToken.{StrandToken}
 use Rattle.cw_steps.specs.Stands.{brought_token, token_of}
 use Rattle.cw_stack.specs.Cells.{CellParts}
 use Rattle.cw_steps.specs.declared.draw.Aim.TheVariants as aims
-use Rattle.cw_steps.specs.Homes.{CellComesHome, ComesHome, IsAsItLay, IsOfCell, LeavesCell, MayGive}
-use Rattle.cw_steps.specs.Views.{cell_in, gap_home, gave_view, held_by, key_of, newest_aim, newest_cell, newest_slot, newest_tier, newest_used, older, tier_of, took_view, view_of, IsLowCell, IsTierOf, IsTokenOf, Holding}
+use Rattle.cw_steps.specs.Homes.{CellComesHome, ComesHome, IsAsItLay, IsAsShown, IsOfCell, LeavesCell, MayGive}
+use Rattle.cw_steps.specs.Views.{cell_in, gap_home, gave_view, held_by, key_of, newest_aim, newest_cell, newest_change, newest_slot, newest_tier, newest_used, older, tier_of, took_view, view_of, IsLowCell, IsQuiet, IsTierOf, IsTokenOf, Holding}
 use Rattle.cw_board.specs.Boards.{cells_in, columns_of, IsOf}
 use Rattle.cw_board.specs.declared.board.Board.{Board}
 use Rattle.cw_board.specs.Sound.{IsSoundToken}
@@ -29,9 +29,14 @@ use Rattle.cw_steps.specs.Leaving.{HasReturned}
 use Rattle.cw_board.proofs.Sound.{sound_brought, sound_later}
 use Rattle.cw_board.proofs.Boards.{is_now}
 use Rattle.cw_board.proofs.Returning.{returned_from}
+use Rattle.cw_board.proofs.Showing.{as_it_was, cell_shown}
 
 pub waits_not : (t : StrandToken) → HasWaited t t
 waits_not t = record { notes = (view_of t).notes; me = refl; track = refl; stop = refl; token = refl }
+
+-- it changes the tier no more than before
+pub waits_quiet : (t t' : StrandToken) → HasWaited t t' → IsQuiet (view_of t) → IsQuiet (view_of t')
+waits_quiet t t' h quiet = ap (λ m. newest_change m.0.turns) h.me ∙ quiet
 
 -- ## What lies in the slot
 
@@ -63,6 +68,9 @@ module _ (b : Board) (why : Aim) (n : ℕ) (t u : StrandToken) (h : HasTaken b w
 
   pub aim_now : newest_aim (view_of u).turns ≡ why
   aim_now = ap (λ (v : View). newest_aim v.turns) view_now
+
+  pub quiet_now : IsQuiet (view_of u)
+  quiet_now = ap (λ (v : View). newest_change v.turns) view_now
 
   pub tier_now : n ≡ cells_in b → HasTier b h.takes.lay u
   tier_now last = record {
@@ -225,27 +233,30 @@ gives_cell b n x m t u h less low comes = record {
   whole = record { cell = λ z. low; tier = λ e. absurd (omega (arith, less, e)) };
   tier = tt;
   cell = comes;
+  shown = cell_shown (newest_tier (view_of u).turns) (newest_change (view_of u).turns) x;
 }
 
 pub gives_tier : (b : Board) (x : Traces) (m : Home) (t u : StrandToken) → IsHolding b (cells_in b) (slot.Tier x) t u → HasTier b (slot.Tier x) u → ComesHome (view_of u).fork (view_of u).phase (newest_aim (view_of u).turns) m (newest_tier (view_of u).turns) (slot.Tier x)
-    → MayGive (key_of b.shared) u (cells_in b) m
-gives_tier b x m t u h tier brings = record {
+    → IsAsShown (newest_tier (view_of u).turns) (newest_change (view_of u).turns) (slot.Tier x) → MayGive (key_of b.shared) u (cells_in b) m
+gives_tier b x m t u h tier brings shown = record {
   lies = slot.Tier x;
   held = holding b (cells_in b) (slot.Tier x) t u h;
   whole = record { cell = λ less. absurd (omega (arith, less)); tier = λ e. tier.whole };
   tier = brings;
   cell = tt;
+  shown = shown;
 }
 
 -- the tier that was only looked at
-pub gives_over : (b : Board) (x : Traces) (t u : StrandToken) → HasTierOver b (slot.Tier x) t u → HasTier b (slot.Tier x) u → newest_tier (view_of u).turns ≡ Some x
+pub gives_over : (b : Board) (x : Traces) (t u : StrandToken) → HasTierOver b (slot.Tier x) t u → HasTier b (slot.Tier x) u → newest_tier (view_of u).turns ≡ Some x → IsQuiet (view_of u)
     → MayGive (key_of b.shared) u (cells_in b) home.Plain
-gives_over b x t u h tier lay = record {
+gives_over b x t u h tier lay quiet = record {
   lies = slot.Tier x;
   held = holding_over b (slot.Tier x) t u h;
   whole = record { cell = λ less. absurd (omega (arith, less)); tier = λ e. tier.whole };
   tier = subst (λ o. ComesHome (view_of u).fork (view_of u).phase (newest_aim (view_of u).turns) home.Plain o (slot.Tier x)) (sym lay) refl;
   cell = tt;
+  shown = as_it_was x (newest_tier (view_of u).turns) (newest_change (view_of u).turns) lay quiet;
 }
 
 -- the tier was only looked at

@@ -15,11 +15,12 @@ use Rattle.cw_steps.specs.Stands.{token_of}
 use Rattle.cw_steps.specs.Tracks.{track_of, TrackParts}
 use Rattle.cw_steps.specs.declared.draw.Aim.{Aim}
 use Rattle.cw_steps.specs.declared.view.Key.{Key}
-use Rattle.cw_steps.specs.Views.{view_of, LeavesIt, TakesIt}
+use Rattle.cw_steps.specs.Views.{noted_view, view_of, LeavesIt, TakesIt}
 use Rattle.cw_board.specs.declared.asking.Moved.{Moved}
 use Rattle.cw_board.specs.declared.board.Board.{Board}
 use Rattle.cw_board.specs.Asked.{noted_since, version_note, HasMoved, HasNoted, HasRead, IsAnswered, IsNotedBetween, IsOnePass, ToldBy}
 use Rattle.cw_board.specs.Boards.{cells_in, columns_of}
+use Rattle.cw_board.specs.Turns.{HasWaited}
 use Rattle.cw_board.specs.Victims.{begin_of, outermost_first, IsBarrier, IsBarrierAmong, IsRefusedBy, IsSearched, IsVictim}
 use Rattle.cw_board.proofs.Reading.{noted_read, notes_read, since_grown, since_is, since_more}
 
@@ -117,3 +118,12 @@ noted_taken key aim n s t u h takes = (h.0, ap (λ m. m.0.notes) takes.after ∙
 
 pub noted_left : (word : ℕ) (s t u : StrandToken) → HasNoted s t → LeavesIt word t.seat.me u.seat.me → HasNoted s u
 noted_left word s t u h leaves = (record { word = word; value = leaves.0 } ∷ h.0, ap (λ m. m.0.notes) leaves.2 ∙ ap (λ ns. record { word = word; value = leaves.0 } ∷ ns) h.1)
+
+pub waits_more : (word : ℕ) (s t u : StrandToken) → HasWaited s t → LeavesIt word t.seat.me u.seat.me → u.track ≡ t.track → u.stop ≡ t.stop → token_of u ≡ token_of t → HasWaited s u
+waits_more word s t u h leaves track stop token = record {
+  notes = record { word = word; value = leaves.0 } ∷ h.notes;
+  me = leaves.2 ∙ ap (λ m. (noted_view word leaves.0 m.0, m.1)) h.me;
+  track = track ∙ h.track;
+  stop = stop ∙ h.stop;
+  token = token ∙ h.token;
+}

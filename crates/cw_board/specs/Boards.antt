@@ -29,8 +29,8 @@ abbrev pub table_of : Board → TableId
 table_of b = b.shared.table.shared.table_id
 
 -- The word of the token's gap shows a block: the one that it showed before, otherwise the one in the token's place now.
-abbrev pub IsShown : (before after : TrackParts) → Type 0
-IsShown c d = d.word ≡ (if c.word == 0 then stamp_of d.own.nodes d.place else c.word)
+abbrev pub IsBlockShown : (before after : TrackParts) → Type 0
+IsBlockShown c d = d.word ≡ (if c.word == 0 then stamp_of d.own.nodes d.place else c.word)
 
 -- the word shows no block if the block that it showed was closed
 abbrev pub IsHidden : (before after : TrackParts) → Type 0

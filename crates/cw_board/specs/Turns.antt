@@ -1,9 +1,10 @@
 -- Turns for which a token waited.
-use Rattle.std.specs.Prelude.{◌≡◌, ℕ, ◌<◌, ◌≤◌, List, [], ◌∷◌, Some}
+use Rattle.std.specs.Prelude.{◌≡◌, ℕ, ◌<◌, ◌≤◌, true, List, [], ◌∷◌, Some}
 use Rattle.cw_steps.specs.declared.draw.Aim.{Aim}
 use Rattle.cw_steps.specs.declared.draw.Home.{Home}
 use Rattle.cw_steps.specs.declared.draw.Home.TheVariants as home
 use Rattle.cw_steps.specs.declared.table.StrandToken.{StrandToken}
+use Rattle.cw_steps.specs.declared.view.Change.{Change}
 use Rattle.cw_steps.specs.declared.view.WordNote.{WordNote}
 use Rattle.cw_steps.specs.Stands.{drawn_token, token_of}
 use Rattle.cw_steps.specs.declared.view.Slot.{Slot}
@@ -11,8 +12,11 @@ use Rattle.cw_steps.specs.declared.view.View.{View}
 use Rattle.cw_steps.specs.declared.draw.Draw.TheVariants as draw
 use Rattle.cw_steps.specs.Tracks.{drawn, track_of}
 use Rattle.cw_stack.specs.Cells.{CellParts}
+use Rattle.cw_trace.specs.Labels.{AreLabels}
+use Rattle.cw_trace.specs.Touched.{TouchedAreListed}
+use Rattle.cw_trace.specs.Traces.{Traces}
 use Rattle.cw_steps.specs.Homes.{IsAsItLay}
-use Rattle.cw_steps.specs.Views.{drew_view, gave_view, held_by, key_of, newest_aim, newest_cell, newest_slot, newest_used, older, view_of, CanFork, IsTierOf, IsTokenOf, TakesIt}
+use Rattle.cw_steps.specs.Views.{drew_view, gave_view, held_by, key_of, newest_aim, newest_cell, newest_slot, newest_used, older, view_of, with_change, CanFork, IsTierOf, IsTokenOf, TakesIt}
 use Rattle.cw_board.specs.Boards.{cells_in, columns_of, IsOf}
 use Rattle.cw_log.specs.declared.board.Forked.{Forked}
 use Rattle.cw_log.specs.declared.board.Forked.TheVariants.{Two, Inline}
@@ -85,6 +89,25 @@ IsOfTier (home.Split fork used) = Unit {0}
 IsOfTier (home.Merge fork used) = Unit {0}
 IsOfTier (home.Inline used) = Unit {0}
 IsOfTier (home.Early before used) = Unit {0}
+
+-- ## Changes of the tier
+
+-- A fork, a split or a merge made `come` of the tier that lay there.
+pub record IsChanged (lay come : Traces) : Type 0 where
+  pub labels : AreLabels come.columns come.labels
+  pub touched : TouchedAreListed lay come
+
+-- It showed the rows of the tier `come` while it had the tier's turn, and the version is even again.
+pub record HasShown (b : Board) (come : Traces) (u u' : StrandToken) : Type 0 where
+  pub change : Change
+  pub comes : change.come ≡ come
+  pub even : change.even ≡ true
+  pub table : IsTokenOf b.shared u'
+  pub view : view_of u' ≡ record (view_of u) { turns = with_change (Some change) (view_of u).turns }
+  pub slots : held_by u' ≡ held_by u
+  pub track : u'.track ≡ u.track
+  pub stop : u'.stop ≡ u.stop
+  pub token : token_of u' ≡ token_of u
 
 -- ## Forks
 

@@ -5,7 +5,7 @@ ghost use Rattle.cw_tree.specs.declared.node.Kind.TheVariants as kind;
 ghost use Rattle.cw_log.specs.Tokens.{began, ended, made, GoesFree, HasBlock, IsLater};
 ghost use Rattle.cw_steps.specs.Stands.{token_of};
 ghost use Rattle.cw_steps.specs.Tracks.{state_of_end, track_of, IsReady};
-ghost use Rattle.cw_board.specs.Boards.{budget_of, IsHidden, IsOf, IsShown};
+ghost use Rattle.cw_board.specs.Boards.{budget_of, IsHidden, IsOf, IsBlockShown};
 
 use crate::Board;
 use cw_base::OutOfMemory;
@@ -19,7 +19,7 @@ impl Board {
         ensures of { IsOf self.now token.new }
         ensures ok { OnOk result ((stamp : ℕ) × IsLater (token_of token.old) stamp × (token_of token.new ≡ began (token_of token.old) stamp)) }
         ensures err { OnErr result (token_of token.new ≡ token_of token.old) }
-        ensures word { OnOk result (IsShown (track_of token.old.track) (track_of token.new.track)) }
+        ensures word { OnOk result (IsBlockShown (track_of token.old.track) (track_of token.new.track)) }
         ensures unmoved { OnErr result ((token.new.seat ≡ token.old.seat) × (track_of token.new.track ≡ track_of token.old.track)) }
     {
         token.reserve(1)?;
@@ -93,7 +93,7 @@ impl Board {
         requires { IsOf self.now token.old }
         ensures of { IsOf self.now token.new }
         ensures token { token_of token.new ≡ token_of token.old }
-        ensures word { IsShown (track_of token.old.track) (track_of token.new.track) }
+        ensures word { IsBlockShown (track_of token.old.track) (track_of token.new.track) }
     {
         if token.word() == 0 {
             let gap = token.gap();

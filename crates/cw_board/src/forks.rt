@@ -1,5 +1,5 @@
 //! Forks, and what splits and merges do to the tier, with its lock held.
-ghost use Rattle.std.specs.Prelude.{◌≡◌, ◌+◌, ◌<◌, ◌≤◌, ◌==◌, ℕ, Bool, Some, IfOk, IfErr, OnOk, OnErr, if◌then◌else◌};
+ghost use Rattle.std.specs.Prelude.{◌≡◌, ◌+◌, ◌<◌, ◌≤◌, ◌==◌, ℕ, Bool, true, false, Some, IfOk, IfErr, OnOk, OnErr, if◌then◌else◌};
 ghost use Rattle.cw_trace.specs.Columns as columns;
 ghost use Rattle.cw_trace.specs.Traces.{Traces};
 ghost use Rattle.cw_log.specs.Tokens.{merged, once_split, GoesFree, IsOn, MayMerge, MaySplit};
@@ -8,12 +8,12 @@ ghost use Rattle.cw_steps.specs.declared.draw.Aim.TheVariants as aims;
 ghost use Rattle.cw_steps.specs.declared.table.StrandToken.{StrandToken};
 ghost use Rattle.cw_steps.specs.declared.view.Slot.{Slot};
 ghost use Rattle.cw_steps.specs.declared.view.Slot.TheVariants as slot;
-ghost use Rattle.cw_steps.specs.Homes.{ComesHome, IsForkThere, IsMergedNow, IsSplitNow, IsTooEarly};
+ghost use Rattle.cw_steps.specs.Homes.{ComesHome, IsAsShown, IsForkThere, IsMergedNow, IsSplitNow, IsTooEarly};
 ghost use Rattle.cw_steps.specs.Stands.{brought_token, token_of};
 ghost use Rattle.cw_steps.specs.Tracks.{track_of, CanPart, IsReady};
-ghost use Rattle.cw_steps.specs.Views.{columns_for, key_of, newest_aim, newest_tier, newest_used, tier_with, view_of, CanFork, IsTierOf};
+ghost use Rattle.cw_steps.specs.Views.{columns_for, key_of, newest_aim, newest_change, newest_tier, newest_used, view_of, with_more, CanFork, IsQuiet, IsTierOf};
 ghost use Rattle.cw_board.specs.Boards.{budget_of, cells_in, columns_of, IsOf};
-ghost use Rattle.cw_board.specs.Turns.{AreOf, BringsNothing, HasForked, HasTier, IsHolding, IsOfTier};
+ghost use Rattle.cw_board.specs.Turns.{AreOf, BringsNothing, HasForked, HasShown, HasTier, IsChanged, IsHolding, IsOfTier};
 
 use crate::Board;
 use cw_base::OutOfMemory;
@@ -39,7 +39,9 @@ fn split_tier(tier: &mut Tier, fork: u32) -> Result<(), Early>
     ensures used { columns.used tier.new.columns ≡ columns.used tier.old.columns }
     ensures room { tier.new.columns.room ≡ tier.old.columns.room }
     ensures ok { OnOk result (IsSplitNow fork tier.old.columns tier.new.columns) }
+    ensures changed { OnOk result (IsChanged tier.old tier.new) }
     ensures early { IfErr result (λ e. IsTooEarly fork e.before tier.old.columns tier.new.columns) }
+    ensures same { OnErr result (tier.new ≡ tier.old) }
 {
     match split_state(tier, fork) {
         Some(false) => tier.split(fork),
@@ -47,15 +49,21 @@ fn split_tier(tier: &mut Tier, fork: u32) -> Result<(), Early>
     }
 }
 
-/// Merges the fork in the tier, if it is there and split. No rule of the table says yet that it is.
-fn merge_tier(tier: &mut Tier, fork: u32)
+/// Merges the fork in the tier and returns true, if it is there and split. Otherwise nothing changes. No rule of the table says yet
+/// that it is.
+fn merge_tier(tier: &mut Tier, fork: u32) -> bool
     ensures used { columns.used tier.new.columns ≡ columns.used tier.old.columns }
     ensures room { tier.new.columns.room ≡ tier.old.columns.room }
     ensures merged { IsMergedNow fork tier.old.columns tier.new.columns }
+    ensures changed { result ≡ true → IsChanged tier.old tier.new }
+    ensures same { result ≡ false → tier.new ≡ tier.old }
 {
     match split_state(tier, fork) {
-        Some(true) => tier.merge(fork),
-        Some(false) | None => {}
+        Some(true) => {
+            tier.merge(fork);
+            true
+        }
+        Some(false) | None => false,
     }
 }
 
@@ -74,22 +82,58 @@ impl Board {
         ensures tier { HasTier self.now (slot.Tier result) token.new }
         ensures lay { newest_tier (view_of token.new).turns ≡ Some result }
         ensures aim { newest_aim (view_of token.new).turns ≡ aim }
+        ensures quiet { IsQuiet (view_of token.new) }
     {
-        self.borrow_tier(rt, token, aim)
+        let place = self.shared.cells();
+        self.take_turn(rt, token, place, aim);
+        self.shared.take_tier(token)
     }
 
-    /// Puts the tier back and releases its lock, and tells what was done.
+    /// Shows the rows of a tier that was changed, to those who read them without its lock. The version is odd while the rows that the
+    /// change touched are stored.
+    fn show_tier(&self, token: &mut StrandToken, tier: &Tier)
+        requires held { (t : StrandToken) × (y : Slot) × IsHolding self.now (cells_in self.now) y t token.old }
+        requires quiet { IsQuiet (view_of token.old) }
+        requires few { columns.used tier.now.columns ≤ columns_of self.now }
+        requires changed { (lay : Traces) × (newest_tier (view_of token.old).turns ≡ Some lay) × IsChanged lay tier.now }
+        ensures shown { HasShown self.now tier.now token.old token.new }
+    {
+        let touched = tier.touched();
+        self.shared.version_odd(token, tier);
+        for column in touched {
+            self.shared.store_row(token, *column, &tier.row(*column));
+        }
+        self.shared.version_even(token);
+    }
+
+    /// Puts the tier back and releases its lock, and tells what was done. What changed was shown before.
     pub(crate) fn leave_tier(&self, token: &mut StrandToken, tier: Tier, home: Home)
         requires held { (t : StrandToken) × (y : Slot) × IsHolding self.now (cells_in self.now) y t token.old }
         requires tier { HasTier self.now (slot.Tier tier) token.old }
         requires home { IsOfTier home }
         requires brings { ComesHome (view_of token.old).fork (view_of token.old).phase (newest_aim (view_of token.old).turns) home (newest_tier (view_of token.old).turns) (slot.Tier tier) }
+        requires shown { IsAsShown (newest_tier (view_of token.old).turns) (newest_change (view_of token.old).turns) (slot.Tier tier) }
         ensures of { IsOf self.now token.new }
         ensures token { token_of token.new ≡ brought_token home (token_of token.old) }
     {
         let place = self.shared.cells();
         self.shared.put_tier(token, tier);
         self.shared.give(token, place, home);
+    }
+
+    /// Shows a change of the tier, puts the tier back and releases its lock.
+    fn leave_changed(&self, token: &mut StrandToken, tier: Tier, home: Home)
+        requires held { (t : StrandToken) × (y : Slot) × IsHolding self.now (cells_in self.now) y t token.old }
+        requires quiet { IsQuiet (view_of token.old) }
+        requires tier { HasTier self.now (slot.Tier tier) token.old }
+        requires changed { (lay : Traces) × (newest_tier (view_of token.old).turns ≡ Some lay) × IsChanged lay tier }
+        requires home { IsOfTier home }
+        requires brings { ComesHome (view_of token.old).fork (view_of token.old).phase (newest_aim (view_of token.old).turns) home (newest_tier (view_of token.old).turns) (slot.Tier tier) }
+        ensures of { IsOf self.now token.new }
+        ensures token { token_of token.new ≡ brought_token home (token_of token.old) }
+    {
+        self.show_tier(token, &tier);
+        self.leave_tier(token, tier, home);
     }
 
     /// Splits the fork, so that its right strand may go on while the left one does. Returns `Early` if another fork has to be split
@@ -103,14 +147,18 @@ impl Board {
         ensures err { OnErr result (token_of token.new ≡ token_of token.old) }
     {
         let mut tier = self.hold_tier(rt, token, Aim::Split);
-        let done = split_tier(&mut tier, fork);
-        let used = tier.used();
-        let home = match done {
-            Ok(()) => Home::Split { fork, used },
-            Err(Early { before }) => Home::Early { before, used },
-        };
-        self.leave_tier(token, tier, home);
-        done
+        match split_tier(&mut tier, fork) {
+            Ok(()) => {
+                let used = tier.used();
+                self.leave_changed(token, tier, Home::Split { fork, used });
+                Ok(())
+            }
+            Err(Early { before }) => {
+                let used = tier.used();
+                self.leave_tier(token, tier, Home::Early { before, used });
+                Err(Early { before })
+            }
+        }
     }
 
     /// Merges again what the split of `fork` parted, for the token of the strand that forked.
@@ -122,9 +170,14 @@ impl Board {
         ensures token { token_of token.new ≡ merged (token_of token.old) }
     {
         let mut tier = self.hold_tier(rt, token, Aim::Merge);
-        merge_tier(&mut tier, fork);
+        let merged = merge_tier(&mut tier, fork);
         let used = tier.used();
-        self.leave_tier(token, tier, Home::Merge { fork, used });
+        let home = Home::Merge { fork, used };
+        if merged {
+            self.leave_changed(token, tier, home);
+        } else {
+            self.leave_tier(token, tier, home);
+        }
     }
 
     /// Makes a fork where the token stands: with two tokens if there are columns for both strands, otherwise inline. Without memory it
@@ -166,7 +219,8 @@ impl Board {
     fn fork_two(&self, token: StrandToken, tier: Tier, left: u32) -> Forked<StrandToken>
         requires held { (t : StrandToken) × (y : Slot) × IsHolding self.now (cells_in self.now) y t token }
         requires aim { newest_aim (view_of token).turns ≡ aims.Fork }
-        requires forked { (lay : Traces) × (newest_tier (view_of token).turns ≡ Some lay) × (tier.columns ≡ columns.forked (view_of token).word (view_of token).column lay.columns) }
+        requires quiet { IsQuiet (view_of token) }
+        requires forked { (lay : Traces) × (newest_tier (view_of token).turns ≡ Some lay) × (tier.columns ≡ columns.forked (view_of token).word (view_of token).column lay.columns) × IsChanged lay tier }
         requires columns { (left ≡ newest_used (view_of token).turns) × (left + 2 ≤ columns_of self.now) × ((view_of token).gap < left) }
         requires tier { IsTierOf (columns_of self.now) (left + 2) (slot.Tier tier) }
         requires ready { IsReady token.track 3 × CanPart token.track }
@@ -175,6 +229,7 @@ impl Board {
     {
         let gap = gap_for(token.word(), token.gap(), left);
         let mut token = token;
+        self.show_tier(&mut token, &tier);
         self.make_fork(&mut token, tier, Home::Plain, left, left + 1, gap);
         let right = self.shared.split_seat(&mut token, false);
         Forked::Two {
@@ -189,6 +244,7 @@ impl Board {
         requires held { (t : StrandToken) × (y : Slot) × IsHolding self.now (cells_in self.now) y t token }
         requires tier { HasTier self.now (slot.Tier tier) token }
         requires aim { newest_aim (view_of token).turns ≡ aims.Fork }
+        requires quiet { IsQuiet (view_of token) }
         requires lay { newest_tier (view_of token).turns ≡ Some tier }
         requires full { columns_of self.now < newest_used (view_of token).turns + 2 }
         requires ready { IsReady token.track 3 × CanPart token.track }
@@ -203,7 +259,7 @@ impl Board {
         Forked::Inline { token }
     }
 
-    /// Draws a fork's number while the tier is out, and puts the tier back.
+    /// Draws a fork's number while the tier is out, and puts the tier back. A fork's columns were shown before.
     fn make_fork(
         &self,
         token: &mut StrandToken,
@@ -217,7 +273,8 @@ impl Board {
         requires fits { CanFork (key_of self.now.shared) (view_of token.old) left right gap }
         requires tier { IsTierOf (columns_of self.now) (newest_used (view_of token.old).turns + columns_for left right) (slot.Tier tier) }
         requires home { BringsNothing home }
-        requires brings { ComesHome (view_of token.old).fork (view_of token.old).phase (newest_aim (view_of token.old).turns) home (tier_with (columns_for left right) (view_of token.old).word (view_of token.old).column (newest_tier (view_of token.old).turns)) (slot.Tier tier) }
+        requires comes { newest_tier (with_more (columns_for left right) (view_of token.old).turns) ≡ Some tier }
+        requires brings { ComesHome (view_of token.old).fork (view_of token.old).phase (newest_aim (view_of token.old).turns) home (Some tier) (slot.Tier tier) }
         requires ready { IsReady token.old.track 3 × CanPart token.old.track }
         ensures made { (stamp : ℕ) × HasForked self.now left right gap stamp token.old token.new }
         ensures spare { CanPart token.new.track }

@@ -5,7 +5,7 @@ ghost use Rattle.cw_steps.specs.declared.view.Slot.{Slot};
 ghost use Rattle.cw_steps.specs.declared.view.Slot.TheVariants as slot;
 ghost use Rattle.cw_steps.specs.Leaving.{HasReturned};
 ghost use Rattle.cw_steps.specs.Stands.{token_of};
-ghost use Rattle.cw_steps.specs.Views.{newest_aim, newest_tier, view_of, IsTokenOf};
+ghost use Rattle.cw_steps.specs.Views.{newest_aim, newest_tier, view_of, IsQuiet, IsTokenOf};
 ghost use Rattle.cw_board.specs.Asked.{HasNoted};
 ghost use Rattle.cw_board.specs.Boards.{cells_in};
 ghost use Rattle.cw_board.specs.Turns.{HasTaken, HasTier, HasTierOver};
@@ -35,6 +35,7 @@ impl Board {
     pub(crate) fn take_turn<R: Wait>(&self, rt: &R, token: &mut StrandToken, slot: u32, aim: Aim)
         requires table { IsTokenOf self.now.shared token.old }
         requires there { slot ≤ cells_in self.now }
+        requires quiet { IsQuiet (view_of token.old) }
         ensures table { IsTokenOf self.now.shared token.new }
         ensures taken { HasTaken self.now aim slot token.old token.new }
         ensures noted { HasNoted token.old token.new }
@@ -51,11 +52,13 @@ impl Board {
 
     /// Waits for the tier's lock, beside those that the token holds, and takes the tier out.
     pub(crate) fn borrow_tier<R: Wait>(&self, rt: &R, token: &mut StrandToken, aim: Aim) -> Tier
-        requires { IsTokenOf self.now.shared token.old }
+        requires table { IsTokenOf self.now.shared token.old }
+        requires quiet { IsQuiet (view_of token.old) }
         ensures held { HasTierOver self.now slot.Empty token.old token.new }
         ensures tier { HasTier self.now (slot.Tier result) token.new }
         ensures lay { newest_tier (view_of token.new).turns ≡ Some result }
         ensures aim { newest_aim (view_of token.new).turns ≡ aim }
+        ensures quiet { IsQuiet (view_of token.new) }
     {
         let place = self.shared.cells();
         self.take_turn(rt, token, place, aim);
@@ -67,6 +70,7 @@ impl Board {
         requires held { (t : StrandToken) × (y : Slot) × HasTierOver self.now y t token.old }
         requires tier { HasTier self.now (slot.Tier tier) token.old }
         requires lay { newest_tier (view_of token.old).turns ≡ Some tier }
+        requires quiet { IsQuiet (view_of token.old) }
         ensures table { IsTokenOf self.now.shared token.new }
         ensures returned { (t : StrandToken) (y : Slot) → HasTierOver self.now y t token.old → HasReturned t.seat.me token.new.seat.me }
         ensures track { token.new.track ≡ token.old.track }

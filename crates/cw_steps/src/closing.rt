@@ -9,7 +9,7 @@ ghost use Rattle.cw_tree.specs.InOrder.{conflicts_in_order, halt_in_order, in_or
 ghost use Rattle.cw_tree.specs.Walks.{IsNumbered};
 ghost use Rattle.cw_steps.specs.Leaving.{logs_of_track, AreFoundJournals, HasReturned};
 ghost use Rattle.cw_steps.specs.Stands.{token_of};
-ghost use Rattle.cw_steps.specs.Views.{key_of, IsTokenOf};
+ghost use Rattle.cw_steps.specs.Views.{key_of, view_of, IsQuiet, IsTokenOf};
 
 mod bases;
 mod conflicts;
@@ -63,7 +63,8 @@ impl Shared {
     /// Closes the table: returns the tree of the logs in depth-first order, their conflicts and halt with the tree's numbers, and
     /// each cell's entries. If memory runs out or a test fails, it gives back table and token.
     pub fn close(self, token: StrandToken) -> Result<Closed, (Shared, StrandToken, OutOfMemory)>
-        requires { IsTokenOf self token }
+        requires table { IsTokenOf self token }
+        requires quiet { IsQuiet (view_of token) }
         ensures together { IfOk result (λ c. IsPutTogether (logs (token_of token)) (token_of token).stop c) }
         ensures journals { IfOk result (λ c. AreFoundJournals (key_of self) token.seat.me c.journals) }
         ensures table { IfErr result (λ e. (e.0 ≡ self) × IsTokenOf e.0 e.1) }
@@ -78,7 +79,8 @@ impl Shared {
     }
 
     fn collect(&self, token: &mut StrandToken) -> Result<Closed, OutOfMemory>
-        requires { IsTokenOf self.now token.old }
+        requires table { IsTokenOf self.now token.old }
+        requires quiet { IsQuiet (view_of token.old) }
         ensures together { IfOk result (λ c. IsPutTogether (logs (token_of token.old)) (token_of token.old).stop c) }
         ensures journals { IfOk result (λ c. AreFoundJournals (key_of self.now) token.old.seat.me c.journals) }
         ensures table { IsTokenOf self.now token.new }

@@ -5,7 +5,7 @@ ghost use Rattle.cw_tree.specs.AccessStacks.{stamps};
 ghost use Rattle.cw_stack.specs.Cells.{AreSteps};
 ghost use Rattle.cw_steps.specs.Leaving.{AreFoundJournals, HasReturned, IsFoundJournal};
 ghost use Rattle.cw_steps.specs.Stands.{token_of};
-ghost use Rattle.cw_steps.specs.Views.{cells_of, key_of, IsTokenOf};
+ghost use Rattle.cw_steps.specs.Views.{cells_of, key_of, view_of, IsQuiet, IsTokenOf};
 
 use crate::{Aim, Home, Shared, StrandToken};
 use cw_base::{OutOfMemory, Seq};
@@ -32,6 +32,7 @@ impl Shared {
         cell: u32,
     ) -> Result<Seq<Entry>, OutOfMemory>
         requires table { IsTokenOf self.now token.old }
+        requires quiet { IsQuiet (view_of token.old) }
         requires cell { cell < cells_of (key_of self.now) }
         ensures journal { IfOk result (λ es. IsFoundJournal (key_of self.now) token.old.seat.me cell es) }
         ensures table { IsTokenOf self.now token.new }
@@ -57,7 +58,8 @@ impl Shared {
         alloc: Global,
         token: &mut StrandToken,
     ) -> Result<Seq<Seq<Entry>>, OutOfMemory>
-        requires { IsTokenOf self.now token.old }
+        requires table { IsTokenOf self.now token.old }
+        requires quiet { IsQuiet (view_of token.old) }
         ensures journals { IfOk result (λ js. AreFoundJournals (key_of self.now) token.old.seat.me js) }
         ensures table { IsTokenOf self.now token.new }
         ensures looked { HasReturned token.old.seat.me token.new.seat.me }

@@ -1,10 +1,10 @@
 use Rattle.std.proofs.Common.{ℕ, refl, subst, ap, ◌∙◌}
 use Rattle.cw_steps.specs.declared.view.View.{View}
-use Rattle.cw_steps.specs.Views.{newest_aim, newest_tier, tier_of, Holding}
+use Rattle.cw_steps.specs.Views.{newest_aim, newest_change, newest_tier, tier_of, Holding}
 use Rattle.cw_steps.specs.declared.view.Slot.TheVariants as slot
 use Rattle.cw_board.specs.Boards.{cells_in}
 use Rattle.cw_board.specs.Turns.{HasTaken}
-use Rattle.cw_board.proofs.Holding.{aim_now, has_tier_too, holding_over, lay_now, over_lies, over_other, takes_over, tier_lies, tier_now}
+use Rattle.cw_board.proofs.Holding.{aim_now, has_tier_too, holding_over, lay_now, over_lies, over_other, quiet_now, takes_over, tier_lies, tier_now}
 use Rattle.cw_board.proofs.board.Board.borrow_tier.Goals as goal
 
 pub take_tier-requires-clause-held : goal.take_tier-requires-clause-held
@@ -56,3 +56,11 @@ returns-clause-aim g c =
     let u = c.take_turn.new.token in
     let taken : HasTaken b c.args.aim (cells_in b) t u = subst (λ (n : ℕ). HasTaken b c.args.aim n t u) c.cells-place.ensures c.take_turn.ensures.taken in
     ap (λ (v : View). newest_aim v.turns) c.take_tier.ensures.view ∙ aim_now b c.args.aim (cells_in b) t u taken
+
+pub returns-clause-quiet : goal.returns-clause-quiet
+returns-clause-quiet g c =
+    let b = c.args.self.now in
+    let t = c.args.token.now in
+    let u = c.take_turn.new.token in
+    let taken : HasTaken b c.args.aim (cells_in b) t u = subst (λ (n : ℕ). HasTaken b c.args.aim n t u) c.cells-place.ensures c.take_turn.ensures.taken in
+    ap (λ (v : View). newest_change v.turns) c.take_tier.ensures.view ∙ quiet_now b c.args.aim (cells_in b) t u taken

@@ -1,11 +1,8 @@
 use Rattle.std.proofs.Common.{ℕ, ◌≡◌, ◌∙◌, Bool, ap, refl, sym, subst, arith, eq-eqb}
 use Rattle.std.specs.Prelude.{if◌then◌else◌}
-use Rattle.cw_steps.specs.declared.draw.Home.TheVariants as home
-use Rattle.cw_steps.specs.declared.view.Slot.TheVariants as slot
 use Rattle.cw_steps.specs.declared.view.View.{View}
-use Rattle.cw_steps.specs.Homes.{ComesHome}
-use Rattle.cw_steps.specs.Views.{columns_for, key_of, newest_aim, newest_tier, tier_with, view_of, CanFork}
-use Rattle.cw_board.proofs.Forking.{can_fork_inline, inline_is}
+use Rattle.cw_steps.specs.Views.{columns_for, key_of, newest_used, view_of, CanFork}
+use Rattle.cw_board.proofs.Forking.{can_fork_inline, inline_is, tier_same}
 use Rattle.cw_board.proofs.board.Board.fork_inline.Goals as goal
 
 pub returns-clause-of : goal.returns-clause-of
@@ -14,13 +11,13 @@ returns-clause-of c =
     let m = c.make_fork.ensures.made in
     inline_is c.args.self.now c.column-column.result c.column-column.result c.gap-gap.result m.0 h.1 h.0 c.args.token c.make_fork.new.token h.2 m.1
 
-pub make_fork-requires-clause-brings : goal.make_fork-requires-clause-brings
-make_fork-requires-clause-brings c =
+pub make_fork-requires-clause-comes : goal.make_fork-requires-clause-comes
+make_fork-requires-clause-comes c =
     let v : View = view_of c.args.token in
-    let n : ℕ = c.column-column.result in
-    let none : columns_for n n ≡ 0 = ap {B = ℕ} (λ (r : Bool). if r then 0 else 2) (eq-eqb n n refl) in
-    subst (λ (k : ℕ). ComesHome v.fork v.phase (newest_aim v.turns) (home.Inline c.used-used.result) (tier_with k v.word v.column (newest_tier v.turns)) (slot.Tier c.args.tier)) (sym none)
-    (subst (λ o. ComesHome v.fork v.phase (newest_aim v.turns) (home.Inline c.used-used.result) o (slot.Tier c.args.tier)) (sym c.requires.lay) (c.used-used.ensures, omega (arith, c.used-used.ensures, c.requires.tier.whole.0, c.requires.tier.whole.1, c.requires.full), refl))
+    tier_same (columns_for c.column-column.result c.column-column.result) v.turns c.requires.quiet ∙ c.requires.lay
+
+pub make_fork-requires-clause-brings : goal.make_fork-requires-clause-brings
+make_fork-requires-clause-brings c = (c.used-used.ensures, omega (arith, c.used-used.ensures, c.requires.tier.whole.0, c.requires.tier.whole.1, c.requires.full), refl)
 
 pub make_fork-requires-clause-fits : goal.make_fork-requires-clause-fits
 make_fork-requires-clause-fits c =
@@ -28,4 +25,4 @@ make_fork-requires-clause-fits c =
     let v : View = view_of t in
     let key = key_of c.args.self.now.shared in
     subst (λ (n : ℕ). CanFork key v n n c.gap-gap.result) (t.column ∙ sym c.column-column.ensures) (subst (λ (g : ℕ). CanFork key v v.column v.column g) (t.gap ∙ sym c.gap-gap.ensures)
-    (can_fork_inline key v c.requires.held.2.turn c.requires.aim c.requires.tier.few c.requires.tier.gap c.requires.full))
+    (can_fork_inline key v c.requires.held.2.turn c.requires.aim c.requires.tier.few c.requires.tier.gap c.requires.full c.requires.quiet))

@@ -1,8 +1,12 @@
 use Rattle.std.proofs.Common.{◌∙◌, ap, refl, sym}
 use Rattle.cw_steps.specs.declared.view.View.{View}
-use Rattle.cw_steps.specs.Views.{cell_in, newest_aim, newest_cell}
-use Rattle.cw_board.proofs.Holding.{aim_now, cell_now, holds_now, holding, lies_there}
+use Rattle.cw_steps.specs.Views.{cell_in, newest_aim, newest_cell, newest_change}
+use Rattle.cw_board.proofs.Boards.{at_rest_quiet}
+use Rattle.cw_board.proofs.Holding.{aim_now, cell_now, holds_now, holding, lies_there, quiet_now}
 use Rattle.cw_board.proofs.board.Board.hold_cell.Goals as goal
+
+pub take_turn-requires-clause-quiet : goal.take_turn-requires-clause-quiet
+take_turn-requires-clause-quiet g c = at_rest_quiet c.args.self.now c.args.token.now c.requires.of
 
 pub swap_cell-requires-clause-held : goal.swap_cell-requires-clause-held
 swap_cell-requires-clause-held g c =
@@ -23,3 +27,6 @@ returns-clause-cell g c =
       there = ap (λ (v : View). newest_cell v.turns) c.swap_cell.ensures.view ∙ cell_now b c.args.aim c.args.cell t u e.taken ∙ ap cell_in there ∙ sym o.2 ∙ c.in-Some.is;
       same = (refl, refl);
     }
+
+pub returns-clause-quiet : goal.returns-clause-quiet
+returns-clause-quiet g c = ap (λ (v : View). newest_change v.turns) c.swap_cell.ensures.view ∙ quiet_now c.args.self.now c.args.aim c.args.cell c.args.token.now c.take_turn.new.token c.take_turn.ensures.taken

@@ -1,7 +1,7 @@
 use Rattle.std.proofs.Common.{ℕ, refl, sym, subst}
 use Rattle.cw_steps.specs.declared.view.View.{View}
-use Rattle.cw_steps.specs.Homes.{ComesHome, MayGive}
-use Rattle.cw_steps.specs.Views.{key_of, newest_aim, newest_tier}
+use Rattle.cw_steps.specs.Homes.{ComesHome, IsAsShown, MayGive}
+use Rattle.cw_steps.specs.Views.{key_of, newest_aim, newest_change, newest_tier}
 use Rattle.cw_steps.specs.declared.view.Slot.TheVariants as slot
 use Rattle.cw_board.specs.Boards.{cells_in}
 use Rattle.cw_board.proofs.Holding.{given_is, gives_tier, has_tier_too, holds_other, tier_gap}
@@ -17,7 +17,8 @@ give-requires-clause-held c =
     let now = holds_other b (cells_in b) h.1 (slot.Tier c.args.tier) h.0 u v h.2 o.table o.view o.slots o.track o.token in
     subst (λ (n : ℕ). MayGive (key_of b.shared) v n c.args.home) (sym c.cells-place.ensures)
     (gives_tier b c.args.tier c.args.home h.0 v now (has_tier_too b (slot.Tier c.args.tier) (slot.Tier c.args.tier) u v refl o.view c.requires.tier)
-    (subst (λ (w : View). ComesHome w.fork w.phase (newest_aim w.turns) c.args.home (newest_tier w.turns) (slot.Tier c.args.tier)) (sym o.view) c.requires.brings))
+    (subst (λ (w : View). ComesHome w.fork w.phase (newest_aim w.turns) c.args.home (newest_tier w.turns) (slot.Tier c.args.tier)) (sym o.view) c.requires.brings)
+    (subst (λ (w : View). IsAsShown (newest_tier w.turns) (newest_change w.turns) (slot.Tier c.args.tier)) (sym o.view) c.requires.shown))
 
 pub returns-clause-of : goal.returns-clause-of
 returns-clause-of c =

@@ -18,7 +18,7 @@ give-requires-clause-held c =
     let o = c.put_tier.ensures in
     subst (λ (n : ℕ). MayGive (key_of b.shared) v n c.args.home) (sym c.cells-place.ensures)
     (gives_fork b c.args.left c.args.right c.args.gap c.draw.result u.track.behind u.track.second h.1 c.args.tier c.args.home h.0 u v h.2 (o.view ∙ d.view)
-    (o.slots ∙ ap (λ ys. (cells_in b, slot.Tier c.args.tier) ∷ rest ys) (d.slots ∙ h.2.slots)) c.requires.tier c.requires.brings)
+    (o.slots ∙ ap (λ ys. (cells_in b, slot.Tier c.args.tier) ∷ rest ys) (d.slots ∙ h.2.slots)) c.requires.tier c.requires.comes c.requires.brings)
 
 pub returns-clause-spare : goal.returns-clause-spare
 returns-clause-spare c =
