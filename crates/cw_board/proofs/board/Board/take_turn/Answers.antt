@@ -2,7 +2,7 @@ use Rattle.std.proofs.Common.{◌∙◌, ap}
 use Rattle.cw_steps.specs.Places.{turn_word}
 use Rattle.cw_steps.specs.Views.{newest_change}
 use Rattle.cw_board.proofs.Holding.{waits_not}
-use Rattle.cw_board.proofs.Passes.{noted_left, noted_not, noted_taken, waits_more}
+use Rattle.cw_board.proofs.Passes.{noted_left, noted_not, waits_more}
 use Rattle.cw_board.proofs.board.Board.take_turn.Goals as goal
 
 pub loop-init : goal.loop-init
