@@ -118,20 +118,6 @@ over_lies b y z t u ys h e = ap first_slot (sym h.slots ∙ e)
 pub holding_over : (b : Board) (y : Slot) (t u : StrandToken) → HasTierOver b y t u → Holding u (cells_in b) y
 holding_over b y t u h = record { turn = h.turn; slot = h.slots ∙ ap (λ ys. (cells_in b, y) ∷ rest ys) (sym h.slots) }
 
--- that of a token that had none
-pub over_holds : (b : Board) (y : Slot) (t u : StrandToken) → IsOf b t → HasTierOver b y t u → IsHolding b (cells_in b) y t u
-over_holds b y t u of h = record {
-  was = of;
-  table = h.table;
-  turn = h.turn;
-  alone = h.older ∙ of.turns;
-  slots = h.slots ∙ ap (λ ys. (cells_in b, y) ∷ ys) of.slots;
-  later = h.later;
-  rest = h.rest;
-  track = h.track;
-  token = h.token;
-}
-
 -- another thing lies there now
 pub holds_other : (b : Board) (n : ℕ) (y z : Slot) (t u u' : StrandToken) → IsHolding b n y t u → IsTokenOf b.shared u' → view_of u' ≡ view_of u → held_by u' ≡ (n, z) ∷ rest (held_by u)
     → u'.track ≡ u.track → token_of u' ≡ token_of u → IsHolding b n z t u'

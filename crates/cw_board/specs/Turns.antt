@@ -92,7 +92,8 @@ IsOfTier (home.Early before used) = Unit {0}
 
 -- ## Changes of the tier
 
--- A fork, a split or a merge made `come` of the tier that lay there.
+-- A call made `come` of the tier that lay there: the labels go in the order of the marks, and each column whose row it changed is
+-- listed.
 pub record IsChanged (lay come : Traces) : Type 0 where
   pub labels : AreLabels come.columns come.labels
   pub touched : TouchedAreListed lay come
