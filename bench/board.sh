@@ -23,7 +23,7 @@ ghost use Rattle.cw_board.specs.Boards.{cells_in};
 ghost use Rattle.board_times.specs.Fit.{IsFit};
 
 use cw_base::OutOfMemory;
-use cw_board::Board;
+use cw_board::{Board, Moved};
 use cw_code::Limits;
 use cw_log::{Access, Forked, strands_go_on};
 use cw_order::Steps;
@@ -249,17 +249,17 @@ fn many_looks<R: Wait>(
     Ok(())
 }
 
-fn number_of(verdict: Verdict) -> u64 {
-    match verdict {
-        Verdict::Free => 0,
-        Verdict::Within => 1,
-        Verdict::Against(_) => 2,
+fn number_of(answer: Result<Verdict, Moved>) -> u64 {
+    match answer {
+        Ok(Verdict::Free) => 0,
+        Ok(Verdict::Within) => 1,
+        Ok(Verdict::Against(_)) => 2,
+        Err(_) => 3,
     }
 }
 
-/// Asks CALLS times, and returns the sum of the answers: Free is 0, Within 1 and Against 2.
-fn many_asks<R: Wait, K: Ledger, L: Ledger>(
-    rt: &R,
+/// Asks CALLS times, and returns the sum of the answers: Free is 0, Within 1, Against 2 and Moved 3.
+fn many_asks<K: Ledger, L: Ledger>(
     board: &Board,
     token: &mut StrandToken,
     strand: u32,
@@ -275,8 +275,8 @@ fn many_asks<R: Wait, K: Ledger, L: Ledger>(
     let mut compares = Steps::<L>::new(blanks.1);
     let mut sum = 0u64;
     for _ in 0..CALLS {
-        let verdict = board.ask(rt, token, last, &mut looks, &mut compares);
-        sum = sum.wrapping_add(number_of(verdict));
+        let answer = board.ask(token, last, &mut looks, &mut compares);
+        sum = sum.wrapping_add(number_of(answer));
     }
     sum
 }
@@ -295,7 +295,7 @@ fn asked<R: Wait + Clock>(
 {
     let blanks = (Blank::new(1), Blank::new(1));
     let start = now(rt)?;
-    let sum = many_asks::<R, Brand, Brand>(rt, board, token, strand, last, blanks);
+    let sum = many_asks::<Brand, Brand>(board, token, strand, last, blanks);
     let time = spent(rt, start)?;
     if sum == u64::from(CALLS).saturating_mul(answer) {
         Ok(time)

@@ -6,6 +6,8 @@ pub mod Holding
 pub mod Forking
 pub mod Accessing
 pub mod Reading
+pub mod Passes
+pub mod Searching
 pub mod Refusing
 pub mod Rolls
 pub mod Cuts

@@ -1,25 +1,21 @@
--- Serves `HasRead` and `ToldBy`: a token that reads words while it has a turn.
+-- Serves `HasRead` and `ToldBy`: a token that reads words.
 use Rattle.std.proofs.Common.{◌≡◌, ◌∙◌, ℕ, ◌-◌, ◌≤◌, List, [], ◌∷◌, ◌++◌, length, length-append, take, ap, refl, sym, subst, arith, append_assoc}
-use Rattle.std.specs.Prelude.{Option, Some, None}
+use Rattle.std.specs.Prelude.{◌&&◌, nat_lt, Bool, Option, Some, None}
 use Rattle.std.specs.Borrow.{MutBor}
 use Rattle.std.proofs.lemmas.List.{take_at}
-use Rattle.std.proofs.lemmas.List.Elements.{Contains-append_right}
-use Rattle.cw_trace.specs.Columns.{ColumnTable}
-use Rattle.cw_trace.specs.Query.{Gives}
-use Rattle.cw_trace.specs.declared.verdict.Verdict.{Verdict}
-use Rattle.cw_tree.specs.declared.access.Mark.{Mark}
-use Rattle.cw_trace.specs.Told.{Owner, Lead, Up, Word, Inside, Number, Maybe, Test, Stays}
+use Rattle.std.proofs.lemmas.List.Elements.{Contains-append_left, Contains-append_right, Contains-push}
+use Rattle.cw_trace.specs.Told.{Owner, Lead, Up, Word, Inside, Test, Stays}
+use Rattle.cw_steps.specs.declared.places.Place.{Place}
+use Rattle.cw_steps.specs.declared.places.Place.TheVariants as places
 use Rattle.cw_steps.specs.declared.table.StrandToken.{StrandToken}
 use Rattle.cw_steps.specs.declared.view.WordNote.{WordNote}
-use Rattle.cw_steps.specs.declared.view.Slot.{Slot}
-use Rattle.cw_steps.specs.declared.view.View.{View}
-use Rattle.cw_steps.specs.Places.{gap_word}
+use Rattle.cw_steps.specs.Leaving.{HasReturned}
+use Rattle.cw_steps.specs.Places.{word_of_place, IsThere}
 use Rattle.cw_steps.specs.Stands.{token_of}
-use Rattle.cw_steps.specs.Views.{held_by, newest_slot, noted_view, older, view_of, IsTokenOf}
+use Rattle.cw_steps.specs.Views.{held_by, noted_view, view_of, IsTokenOf}
 use Rattle.cw_board.specs.declared.board.Board.{Board}
-use Rattle.cw_board.specs.Boards.{cells_in}
-use Rattle.cw_board.specs.Turns.{at_rest, HasTierOver}
-use Rattle.cw_board.specs.Asked.{noted_since, HasRead, IsAnswered, IsReading, Question, ReadsFor, ToldBy, ToldFor}
+use Rattle.cw_board.specs.Boards.{cells_in, columns_of}
+use Rattle.cw_board.specs.Asked.{noted_since, HasNoted, HasRead, HeardFor, IsHeard, IsReading, Question, ReadsFor, ToldBy, ToldFor}
 
 pub reads_not : (t : StrandToken) → HasRead t t
 reads_not t = record { notes = []; me = refl; table = refl; track = refl; token = refl }
@@ -42,98 +38,124 @@ reads_then t u u' h g = record {
   token = g.token ∙ h.token;
 }
 
+-- it took no turn, and forgot nothing
+pub read_returned : (t u : StrandToken) → HasRead t u → HasReturned t.seat.me u.seat.me
+read_returned t u h = record { seen = (view_of t).seen; notes = h.notes ++ (view_of t).notes; later = omega arith; after = h.me }
+
+-- ## Notes
+
+pub notes_read : (t u : StrandToken) (h : HasRead t u) → (view_of u).notes ≡ h.notes ++ (view_of t).notes
+notes_read t u h = ap (λ m. m.0.notes) h.me
+
 -- those that were made since
+pub since_more : (t u : StrandToken) (more : List WordNote) → (view_of u).notes ≡ more ++ (view_of t).notes → noted_since t u ≡ more
+since_more t u more all =
+    let many : length (view_of u).notes - length (view_of t).notes ≡ length more = omega (arith, ap length all, length-append more (view_of t).notes) in
+    (λ i. take (many i) (all i)) ∙ take_at more (view_of t).notes (length more) refl
+
 pub since_is : (t u : StrandToken) (h : HasRead t u) → noted_since t u ≡ h.notes
-since_is t u h =
-    let all : (view_of u).notes ≡ h.notes ++ (view_of t).notes = ap (λ m. m.0.notes) h.me in
-    let many : length (view_of u).notes - length (view_of t).notes ≡ length h.notes = omega (arith, ap length all, length-append h.notes (view_of t).notes) in
-    (λ i. take (many i) (all i)) ∙ take_at h.notes (view_of t).notes (length h.notes) refl
+since_is t u h = since_more t u h.notes (notes_read t u h)
 
--- an answer stays one when more is noted
-told_more : (c : ColumnTable) (cells : ℕ) (more notes : List WordNote) → Stays (ToldBy c cells notes) (ToldBy c cells (more ++ notes))
-told_more c cells more notes (Owner i) a h = h
-told_more c cells more notes (Lead t) a h = h
-told_more c cells more notes (Up t) a h = h
-told_more c cells more notes (Inside t o) a h = h
-told_more c cells more notes (Word g) (Number n) h = record { word = λ l. Contains-append_right more notes _ (h.word l); none = h.none }
-told_more c cells more notes (Word g) (Maybe o) h = h
-told_more c cells more notes (Word g) (Test b) h = h
+pub since_grown : (t u : StrandToken) → HasNoted t u → (view_of u).notes ≡ noted_since t u ++ (view_of t).notes
+since_grown t u h = h.1 ∙ ap (λ ns. ns ++ (view_of t).notes) (sym (since_more t u h.0 h.1))
 
--- a word was read
-module _ (c : ColumnTable) (cells gap value : ℕ) (t u u' : StrandToken) (h : HasRead t u) (g : HasRead t u') (more : g.notes ≡ record { word = gap_word cells gap; value = value } ∷ h.notes) where
-  abbrev note : WordNote
-  note = record { word = gap_word cells gap; value = value }
+pub noted_then : (t u v : StrandToken) → HasNoted t u → HasNoted u v → HasNoted t v
+noted_then t u v h g = (g.0 ++ h.0, g.1 ∙ ap (λ ns. g.0 ++ ns) h.1 ∙ sym (append_assoc g.0 h.0 (view_of t).notes))
 
-  pub told_still : Stays (ToldBy c cells (noted_since t u)) (ToldBy c cells (noted_since t u'))
-  told_still r a told = subst (λ ns. ToldBy c cells ns r a) (sym (since_is t u' g ∙ more)) (told_more c cells (note ∷ []) h.notes r a (subst (λ ns. ToldBy c cells ns r a) (since_is t u h) told))
+pub noted_read : (t u : StrandToken) → HasRead t u → HasNoted t u
+noted_read t u h = (h.notes, notes_read t u h)
 
--- ## One question
+-- ## What was heard stays
 
--- the word of a gap was loaded
-pub record WasLoaded (b : Board) (gap n : ℕ) (lent lent' : MutBor StrandToken) : Type 0 where
+heard_more : (cells columns : ℕ) (more notes : List WordNote) (p : Place) (n : ℕ) → IsHeard cells columns notes p n → IsHeard cells columns (more ++ notes) p n
+heard_more cells columns more notes p n h = record { there = λ l. Contains-append_right more notes _ (h.there l); lacks = h.lacks }
+
+module _ (cells columns : ℕ) (heard later : List WordNote) (f : (p : Place) (n : ℕ) → IsHeard cells columns heard p n → IsHeard cells columns later p n) where
+  told_later : Stays (ToldBy cells columns heard) (ToldBy cells columns later)
+  told_later (Owner i) a h = (h.0, f (places.Owner i) h.0 h.1, h.2)
+  told_later (Lead t) a h = (h.0, f (places.Lead t) h.0 h.1, h.2)
+  told_later (Up t) a h = (h.0, f (places.Up t) h.0 h.1, h.2)
+  told_later (Word g) a h = (h.0, f (places.Gap g) h.0 h.1, h.2)
+  told_later (Inside t o) a h = (
+    h.0,
+    record {
+      opening = h.1.opening;
+      inner = h.1.inner;
+      closing = h.1.closing;
+      opening_is = f (places.Opening o) h.1.opening h.1.opening_is;
+      inner_is = f (places.Opening t) h.1.inner h.1.inner_is;
+      closing_is = f (places.Closing o) h.1.closing h.1.closing_is;
+      inside = h.1.inside;
+    },
+    h.2,
+  )
+
+heard_first : (cells columns : ℕ) (notes older : List WordNote) (p : Place) (n : ℕ) → IsHeard cells columns notes p n → IsHeard cells columns (notes ++ older) p n
+heard_first cells columns notes older p n h = record { there = λ l. Contains-append_left notes older _ (h.there l); lacks = h.lacks }
+
+-- an answer stays one when more is noted, and beside what was noted before
+pub told_more : (cells columns : ℕ) (more notes : List WordNote) → Stays (ToldBy cells columns notes) (ToldBy cells columns (more ++ notes))
+told_more cells columns more notes = told_later cells columns notes (more ++ notes) (heard_more cells columns more notes)
+
+pub told_first : (cells columns : ℕ) (notes older : List WordNote) → Stays (ToldBy cells columns notes) (ToldBy cells columns (notes ++ older))
+told_first cells columns notes older = told_later cells columns notes (notes ++ older) (heard_first cells columns notes older)
+
+pub told_stays : (o : Option Question) (u u' : StrandToken) → ((p : Place) (n : ℕ) → HeardFor o u p n → HeardFor o u' p n) → Stays (ToldFor o u) (ToldFor o u')
+told_stays None u u' f = λ r a h. absurd h
+told_stays (Some q) u u' f = told_later q.cells q.columns (noted_since q.token.now u) (noted_since q.token.now u') f
+
+-- ## One load
+
+-- the word of a place was loaded
+pub record WasLoaded (b : Board) (p : Place) (n : ℕ) (lent lent' : MutBor StrandToken) : Type 0 where
   pub name : lent'.ghost_name ≡ lent.ghost_name
   pub table : IsTokenOf b.shared lent'.now
-  pub view : view_of lent'.now ≡ noted_view (gap_word (cells_in b) gap) n (view_of lent.now)
+  pub view : view_of lent'.now ≡ noted_view (word_of_place (cells_in b) (columns_of b) p) n (view_of lent.now)
   pub slots : held_by lent'.now ≡ held_by lent.now
   pub track : lent'.now.track ≡ lent.now.track
   pub token : token_of lent'.now ≡ token_of lent.now
 
-module _ (q : Question) (b : Board) (lent lent' : MutBor StrandToken) (c : ColumnTable) (gap n : ℕ) (h : IsReading q b lent c) (l : WasLoaded b gap n lent lent') where
+module _ (q : Question) (b : Board) (lent lent' : MutBor StrandToken) (p : Place) (n : ℕ) (h : IsReading q b lent) (l : WasLoaded b p n lent lent') where
   read_now : HasRead q.token.now lent'.now
-  read_now = reads_more q.token.now lent.now lent'.now (gap_word (cells_in b) gap) n h.read (l.table ∙ sym h.table) l.view l.slots l.track l.token
+  read_now = reads_more q.token.now lent.now lent'.now (word_of_place (cells_in b) (columns_of b) p) n h.read (l.table ∙ sym h.table) l.view l.slots l.track l.token
 
-  note_now : read_now.notes ≡ record { word = gap_word q.cells gap; value = n } ∷ h.read.notes
+  abbrev note : WordNote
+  note = record { word = word_of_place q.cells q.columns p; value = n }
+
+  note_now : read_now.notes ≡ note ∷ h.read.notes
   unfolding read_now reads_more
-  note_now = ap (λ (k : ℕ). record { word = gap_word k gap; value = n } ∷ h.read.notes) h.cells
+  note_now i = record { word = word_of_place (h.cells i) (h.columns i) p; value = n } ∷ h.read.notes
 
-  one_reads : IsReading q b lent' c
-  one_reads = record { name = l.name ∙ h.name; read = read_now; table = l.table; tier = h.tier; cells = h.cells; few = h.few }
+  since_now : noted_since q.token.now lent'.now ≡ note ∷ noted_since q.token.now lent.now
+  since_now = since_is q.token.now lent'.now read_now ∙ note_now ∙ ap (λ ns. note ∷ ns) (sym (since_is q.token.now lent.now h.read))
 
-  one_stays : Stays (ToldFor (Some q) lent.now) (ToldFor (Some q) lent'.now)
-  one_stays = told_still q.tier q.cells gap n q.token.now lent.now lent'.now h.read read_now note_now
+  one_reads : IsReading q b lent'
+  one_reads = record { name = l.name ∙ h.name; read = read_now; table = l.table; cells = h.cells; columns = h.columns }
 
-module _ (b : Board) (lent lent' : MutBor StrandToken) (c : ColumnTable) (gap n : ℕ) (l : WasLoaded b gap n lent lent') where
-  pub word_reads : (o : Option Question) → ReadsFor o b lent c → ReadsFor o b lent' c
-  word_reads None h = absurd h
-  word_reads (Some q) h = one_reads q b lent lent' c gap n h l
+  one_stays : (x : Place) (m : ℕ) → HeardFor (Some q) lent.now x m → HeardFor (Some q) lent'.now x m
+  one_stays x m g = subst (λ ns. IsHeard q.cells q.columns ns x m) (sym since_now) (heard_more q.cells q.columns (note ∷ []) (noted_since q.token.now lent.now) x m g)
 
-  pub word_stays : (o : Option Question) → ReadsFor o b lent c → Stays (ToldFor o lent.now) (ToldFor o lent'.now)
-  word_stays None h = absurd h
-  word_stays (Some q) h = one_stays q b lent lent' c gap n h l
+  one_heard : IsThere (columns_of b) p → HeardFor (Some q) lent'.now p n
+  one_heard there = subst (λ ns. IsHeard q.cells q.columns ns p n) (sym since_now)
+      (record { there = λ l. Contains-append_left (note ∷ []) (noted_since q.token.now lent.now) note (Contains-push [] note); lacks = λ f. absurd (f (subst (λ c. IsThere c p) h.columns there)) })
 
--- ## With a turn
+module _ (b : Board) (lent lent' : MutBor StrandToken) (p : Place) (n : ℕ) (l : WasLoaded b p n lent lent') where
+  pub load_reads : (o : Option Question) → ReadsFor o b lent → ReadsFor o b lent'
+  load_reads None h = absurd h
+  load_reads (Some q) h = one_reads q b lent lent' p n h l
 
--- words are read while the tier's turn is held
-pub over_read : (b : Board) (y : Slot) (t u u' : StrandToken) → HasTierOver b y t u → HasRead u u' → HasTierOver b y t u'
-over_read b y t u u' h g =
-    let view : view_of u' ≡ record (view_of u) { notes = g.notes ++ (view_of u).notes } = ap (λ m. m.0) g.me in record {
-      table = g.table ∙ h.table;
-      turn = ap (λ (v : View). newest_slot v.turns) view ∙ h.turn;
-      older = ap (λ (v : View). older v.turns) view ∙ h.older;
-      slots = ap (λ m. m.1) g.me ∙ h.slots;
-      later = subst (λ (v : View). (view_of t).seen ≤ v.seen) (sym view) h.later;
-      rest = ap at_rest view ∙ h.rest;
-      track = g.track ∙ h.track;
-      token = g.token ∙ h.token;
-    }
+  pub load_stays : (o : Option Question) → ReadsFor o b lent → (x : Place) (m : ℕ) → HeardFor o lent.now x m → HeardFor o lent'.now x m
+  load_stays None h = absurd h
+  load_stays (Some q) h = one_stays q b lent lent' p n h l
 
--- the notes of one question stay in a row
-pub answered_later : (cells asker : ℕ) (last : Mark) (u u' : StrandToken) (more : List WordNote) (v : Verdict) → (view_of u').notes ≡ more ++ (view_of u).notes → IsAnswered cells last asker u v → IsAnswered cells last asker u' v
-answered_later cells asker last u u' more v e h = record {
-  tier = h.tier;
-  newer = more ++ h.newer;
-  notes = h.notes;
-  older = h.older;
-  noted = e ∙ ap (λ ns. more ++ ns) h.noted ∙ sym (append_assoc more (h.newer ++ h.notes) h.older) ∙ ap (λ ns. ns ++ h.older) (sym (append_assoc more h.newer h.notes));
-  gives = h.gives;
-}
+  pub load_heard : (o : Option Question) → ReadsFor o b lent → IsThere (columns_of b) p → HeardFor o lent'.now p n
+  load_heard None h = absurd h
+  load_heard (Some q) h = one_heard q b lent lent' p n h l
 
-pub answered_now : (c : ColumnTable) (cells asker : ℕ) (last : Mark) (t u : StrandToken) (v : Verdict) → HasRead t u → Gives (ToldBy c cells (noted_since t u)) last asker v → IsAnswered cells last asker u v
-answered_now c cells asker last t u v h g = record {
-  tier = c;
-  newer = [];
-  notes = noted_since t u;
-  older = (view_of t).notes;
-  noted = ap (λ m. m.0.notes) h.me ∙ ap (λ ns. ns ++ (view_of t).notes) (sym (since_is t u h));
-  gives = g;
-}
+-- ## Three labels
+
+pub told_inside : (o : Option Question) (u : StrandToken) (trace outer opening inner closing : ℕ) (b : Bool) → HeardFor o u (places.Opening outer) opening → HeardFor o u (places.Opening trace) inner → HeardFor o u (places.Closing outer) closing
+    → b ≡ (nat_lt opening inner && nat_lt inner closing) → ToldFor o u (Inside trace outer) (Test b)
+told_inside None u trace outer opening inner closing b h g k e = absurd h
+told_inside (Some q) u trace outer opening inner closing b h g k e =
+    (b, record { opening = opening; inner = inner; closing = closing; opening_is = h; inner_is = g; closing_is = k; inside = e }, refl)

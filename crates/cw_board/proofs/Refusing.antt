@@ -1,10 +1,10 @@
--- Serves `IsBarrier` and `Refuses`: an access that is refused.
-use Rattle.std.proofs.Common.{◌≡◌, ◌∙◌, ℕ, List, [], ◌∷◌, ◌++◌, ap, reverse, refl, sym, subst, inl, inr, arith}
+-- Serves `IsBarrierAmong` and `Refuses`: an access that is refused.
+use Rattle.std.proofs.Common.{◌≡◌, ◌∙◌, ℕ, ◌-◌, length, take, List, [], ◌∷◌, ◌++◌, ap, reverse, refl, sym, subst, inl, inr, arith}
 use Rattle.std.specs.Prelude.{◌⊎◌, Contains, IfOk, IfSome, OnOk, Option, Some, None, Result, Ok, Err}
 use Rattle.std.proofs.lemmas.List.{map-append, reverse-append}
 use Rattle.std.proofs.lemmas.List.Elements.{Contains-append_cases, Contains-append_left, Contains-push, Contains-push_cases}
+use Rattle.cw_base.specs.declared.memory.OutOfMemory.{OutOfMemory}
 use Rattle.cw_tree.specs.declared.access.Mark.{Mark}
-use Rattle.cw_trace.specs.declared.verdict.Verdict.TheVariants.{Against}
 use Rattle.cw_log.specs.declared.board.Access.{Access}
 use Rattle.cw_log.specs.declared.board.Access.TheVariants as access
 use Rattle.cw_log.specs.declared.log.Above.{Above}
@@ -14,10 +14,11 @@ use Rattle.cw_steps.specs.declared.table.StrandToken.{StrandToken}
 use Rattle.cw_steps.specs.Stands.{token_of}
 use Rattle.cw_steps.specs.Tracks.{begins, track_of}
 use Rattle.cw_steps.specs.Views.{view_of}
+use Rattle.cw_board.specs.declared.board.Board.{Board}
 use Rattle.cw_board.specs.declared.victims.Barrier.{Barrier}
-use Rattle.cw_board.specs.Asked.{IsAnswered, IsRefusedAfter}
-use Rattle.cw_board.specs.Victims.{begin_of, IsBarrier, Refuses}
-use Rattle.cw_board.proofs.Reading.{answered_later}
+use Rattle.cw_board.specs.Asked.{noted_since, HasNoted}
+use Rattle.cw_board.specs.Victims.{begin_of, IsBarrierAmong, IsRefusedAfter, Refuses}
+use Rattle.cw_board.proofs.Passes.{barrier_earlier}
 
 pub ok_both : {A E : Type 0} (P Q : A → Type 0) (N : Type 0) (r : Result A E) → ((a : A) → N → P a → Q a) → OnOk r N → IfOk r P → IfOk r Q
 ok_both P Q N (Ok a) f n h = f a n h
@@ -54,14 +55,32 @@ pub falls_around : (x x' : Token) (o : Option Above) → x' ≡ x → IfSome o (
 falls_around x x' None e h = inl refl
 falls_around x x' (Some a) e h = inr (subst (λ (y : Token). Contains y.around a.begin) e h)
 
-pub barrier_later : (cells : ℕ) (last : Mark) (t t' u u' : StrandToken) (x : Barrier) → t.track ≡ t'.track → token_of t ≡ token_of t' → (view_of u').notes ≡ (view_of u).notes → IsBarrier cells last t u x → IsBarrier cells last t' u' x
-barrier_later cells last t t' u u' x track token notes b = record {
-  against = subst (λ k. IsAnswered cells last (track_of k).column u' (Against x.block)) track (answered_later cells (track_of t.track).column last u u' [] (Against x.block) notes b.against);
-  around = subst (λ (y : Token). IsAround y (begin_of x.victim)) token b.around;
-}
-
 -- ## The answer
 
-pub refuses_after : (cells asker : ℕ) (last : Mark) (x y : Token) (c : ℕ) (b : Barrier) (own : ℕ) (chain : List ℕ) (u : StrandToken) (a : Access) → IsAnswered cells last asker u (Against b.block) → Refuses x y c last.stamp b own chain a → IsRefusedAfter cells asker u a
-refuses_after cells asker last x y c b own chain u (access.Value v) g h = absurd h
-refuses_after cells asker last x y c b own chain u (access.Conflict k) g h = (last, ap (λ j. j.last) h.0, subst (λ (n : ℕ). IsAnswered cells last asker u (Against n)) (sym (ap (λ j. j.block) h.0)) g)
+-- a question and a search of this token found what its conflict tells
+pub refuses_after : (b : Board) (t u v : StrandToken) (last : Mark) (bar : Barrier) (x y : Token) (c own : ℕ) (chain : List ℕ) (a : Access) → (view_of v).notes ≡ (view_of u).notes → IsBarrierAmong b last t (noted_since t u) bar.block bar.victim
+    → Refuses x y c last.stamp bar own chain a → IsRefusedAfter b t v a
+refuses_after b t u v last bar x y c own chain (access.Value n) same h r = absurd r
+refuses_after b t u v last bar x y c own chain (access.Conflict k) same h r = record {
+  last = last;
+  last_is = ap (λ j. j.last) r.0;
+  victim = bar.victim;
+  victim_is = ap (λ j. j.victim) r.0;
+  barrier = subst (λ (n : ℕ). IsBarrierAmong b last t (noted_since t v) n bar.victim) (sym (ap (λ j. j.block) r.0))
+      (subst (λ ns. IsBarrierAmong b last t ns bar.block bar.victim) (ap (λ ns. take (length ns - length (view_of t).notes) ns) (sym same)) h);
+}
+
+-- the call began earlier
+pub refused_earlier : (b : Board) (s t v : StrandToken) → HasNoted s t → track_of t.track ≡ track_of s.track → token_of t ≡ token_of s → (a : Access) → IsRefusedAfter b t v a → IsRefusedAfter b s v a
+refused_earlier b s t v more track token (access.Value n) h = h
+refused_earlier b s t v more track token (access.Conflict k) h = record {
+  last = h.last;
+  last_is = h.last_is;
+  victim = h.victim;
+  victim_is = h.victim_is;
+  barrier = barrier_earlier b h.last k.block h.victim s t v more track token h.barrier;
+}
+
+pub refused_since : (b : Board) (s t v : StrandToken) → HasNoted s t → track_of t.track ≡ track_of s.track → token_of t ≡ token_of s → (r : Result Access OutOfMemory) → IfOk r (IsRefusedAfter b t v) → IfOk r (IsRefusedAfter b s v)
+refused_since b s t v more track token (Ok a) h = refused_earlier b s t v more track token a h
+refused_since b s t v more track token (Err e) h = h

@@ -9,10 +9,9 @@ ghost use Rattle.cw_log.specs.Tokens.{refused, GoesFree};
 ghost use Rattle.cw_steps.specs.Stands.{token_of};
 ghost use Rattle.cw_steps.specs.Tracks.{one_more, track_of, tries_of, IsReady};
 ghost use Rattle.cw_steps.specs.Views.{view_of, IsLowCell};
-ghost use Rattle.cw_board.specs.Asked.{IsRefusedAfter};
 ghost use Rattle.cw_board.specs.Boards.{budget_of, cells_in, IsOf};
 ghost use Rattle.cw_board.specs.Turns.{HasCell, IsHolding};
-ghost use Rattle.cw_board.specs.Victims.{attempt_refused, begin_of, conflict_with, Refuses};
+ghost use Rattle.cw_board.specs.Victims.{attempt_refused, begin_of, conflict_with, IsRefusedAfter, Refuses};
 ghost use Rattle.cw_tree.specs.AccessStacks.{stamps};
 ghost use Rattle.cw_tree.specs.Newest.{last_eight};
 
@@ -128,14 +127,14 @@ impl Board {
         requires ready { IsReady token.old.track 1 }
         ensures of { IsOf self.now token.new }
         ensures ok { IfOk result (λ a. Meets (token_of token.old) (token_of token.new) cell write a) }
-        ensures against { IfOk result (λ a. IsRefusedAfter (cells_in self.now) (track_of token.old.track).column token.new a) }
+        ensures against { IfOk result (IsRefusedAfter self.now token.old token.new) }
         ensures err { OnErr result (token_of token.new ≡ token_of token.old) }
         ensures word { (track_of token.new.track).word ≡ (track_of token.old.track).word }
     {
         let Some(last) = held.last() else {
             return Ok(Access::Value(self.make_access(token, cell, held, write)));
         };
-        match self.judge(rt, token, last) {
+        match self.barrier(rt, token, last) {
             Some(barrier) => self.refuse(token, cell, held, last.stamp, barrier),
             None => Ok(Access::Value(self.make_access(token, cell, held, write))),
         }
@@ -154,7 +153,7 @@ impl Board {
         requires cell { cell < cells_in self.now }
         ensures of { IsOf self.now token.new }
         ensures ok { IfOk result (λ a. Meets (token_of token.old) (token_of token.new) cell write a) }
-        ensures against { IfOk result (λ a. IsRefusedAfter (cells_in self.now) (track_of token.old.track).column token.new a) }
+        ensures against { IfOk result (IsRefusedAfter self.now token.old token.new) }
         ensures err { OnErr result (token_of token.new ≡ token_of token.old) }
         ensures word { (track_of token.new.track).word ≡ (track_of token.old.track).word }
     {

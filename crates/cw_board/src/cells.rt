@@ -12,6 +12,7 @@ ghost use Rattle.cw_steps.specs.declared.draw.Aim.TheVariants as aims;
 ghost use Rattle.cw_steps.specs.declared.draw.Home.TheVariants as home;
 ghost use Rattle.cw_steps.specs.Homes.{CellComesHome};
 ghost use Rattle.cw_steps.specs.Views.{gave_view, newest_aim, newest_cell, view_of, IsLowCell, IsQuiet};
+ghost use Rattle.cw_board.specs.Asked.{HasNoted};
 ghost use Rattle.cw_board.specs.Boards.{cells_in, IsOf};
 ghost use Rattle.cw_board.specs.Turns.{HasCell, IsHolding};
 
@@ -46,6 +47,7 @@ impl Board {
         ensures held { IsHolding self.now cell slot.Empty token.old token.new }
         ensures low { IsLowCell (view_of token.new).seen (slot.Cell result) }
         ensures cell { HasCell aim result token.new }
+        ensures noted { HasNoted token.old token.new }
         ensures quiet { IsQuiet (view_of token.new) }
         ensures word { (track_of token.new.track).word ≡ (track_of token.old.track).word }
     {

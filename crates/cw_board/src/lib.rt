@@ -21,5 +21,6 @@ mod strands;
 mod turns;
 mod victims;
 
+pub use asking::Moved;
 pub use board::Board;
 pub use named::{BoardName, NamedBoard, NamedToken};

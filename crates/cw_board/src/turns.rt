@@ -6,6 +6,7 @@ ghost use Rattle.cw_steps.specs.declared.view.Slot.TheVariants as slot;
 ghost use Rattle.cw_steps.specs.Leaving.{HasReturned};
 ghost use Rattle.cw_steps.specs.Stands.{token_of};
 ghost use Rattle.cw_steps.specs.Views.{newest_aim, newest_tier, view_of, IsQuiet, IsTokenOf};
+ghost use Rattle.cw_board.specs.Asked.{HasNoted};
 ghost use Rattle.cw_board.specs.Boards.{cells_in};
 ghost use Rattle.cw_board.specs.Turns.{HasTaken, HasTier, HasTierOver};
 
@@ -37,6 +38,7 @@ impl Board {
         requires quiet { IsQuiet (view_of token.old) }
         ensures table { IsTokenOf self.now.shared token.new }
         ensures taken { HasTaken self.now aim slot token.old token.new }
+        ensures noted { HasNoted token.old token.new }
     {
         let mut tries = 0;
         for _ in rt.forever() {

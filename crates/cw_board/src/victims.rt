@@ -1,21 +1,19 @@
 //! What stands in the way of an access, and which block has to fall for it.
-ghost use Rattle.std.specs.Prelude.{◌≡◌, ◌+◌, ◌<◌, ◌≤◌, Contains, IfSome};
-ghost use Rattle.cw_trace.specs.Columns as columns;
-ghost use Rattle.cw_steps.specs.Leaving.{HasReturned};
+ghost use Rattle.std.specs.Prelude.{◌≡◌, ◌<◌, Contains, IfOk, IfSome, length, slice_get, Some};
 ghost use Rattle.cw_steps.specs.Stands.{token_of};
-ghost use Rattle.cw_steps.specs.Tracks.{track_of};
-ghost use Rattle.cw_steps.specs.Views.{IsTokenOf};
-ghost use Rattle.cw_board.specs.Boards.{cells_in, columns_of, IsOf};
-ghost use Rattle.cw_xconf.specs.Costs.{looks_for, most_looks};
-ghost use Rattle.cw_board.specs.Asked.{HasRead, IsAnswered};
-ghost use Rattle.cw_board.specs.Victims.{IsBarrier};
+ghost use Rattle.cw_steps.specs.Views.{view_of, IsTokenOf};
+ghost use Rattle.cw_board.specs.Asked.{noted_since, HasRead, ToldBy};
+ghost use Rattle.cw_board.specs.Boards.{cells_in, columns_of};
+ghost use Rattle.cw_board.specs.Victims.{outermost_first, IsBarrier, IsBarrierAmong, IsSearched, IsVictim};
 
 use crate::Board;
+use crate::asking::{Moved, settled};
 use cw_log::Above;
 use cw_order::Steps;
-use cw_steps::{Aim, StrandToken};
-use cw_trace::{Tier, Verdict};
+use cw_steps::StrandToken;
+use cw_trace::Verdict;
 use cw_tree::Mark;
+use std::hint::spin_loop;
 use std::marker::Brand;
 use std::sync::Wait;
 use std::sync::ledger::{Blank, Ledger};
@@ -27,139 +25,121 @@ pub(crate) struct Barrier {
     pub(crate) victim: Option<Above>,
 }
 
-/// Returns the block at position `k`, if there is one.
-fn block_at(blocks: &[Above], k: usize) -> Option<Above>
-    ensures { IfSome result (λ a. Contains blocks.now a) }
+/// Returns the block at position `k`.
+fn block_at(blocks: &[Above], k: usize) -> Above
+    requires { k < length blocks.now }
+    ensures { slice_get blocks.now k ≡ Some result }
 {
-    if k < blocks.len() {
-        Some(blocks[k])
-    } else {
-        None
-    }
+    blocks[k]
 }
 
 impl Board {
-    /// Returns the outermost pending block around the token's place that is not above the access `last`.
-    fn victim<K: Ledger, L: Ledger>(
+    /// Returns the outermost pending block around the token's place that is not above the access `last`, by the words that it
+    /// loads.
+    fn victim_by_words<K: Ledger, L: Ledger>(
         &self,
-        tier: &Tier,
         token: &mut StrandToken,
+        version: u64,
         last: Mark,
         looks: &mut Steps<K>,
         compares: &mut Steps<L>,
     ) -> Option<Above>
         requires table { IsTokenOf self.now.shared token.old }
-        requires few { columns.used tier.now.columns ≤ columns_of self.now }
         ensures read { HasRead token.old token.new }
+        ensures victim { IsVictim (ToldBy (cells_in self.now) (columns_of self.now) (noted_since token.old token.new)) last (outermost_first token.old) result }
         ensures around { IfSome result (λ a. Contains (token_of token.old).around a.begin) }
     {
         let count = token.pending().len();
         for k in 0..count {
-            let Some(block) = block_at(token.pending(), k) else {
-                break;
-            };
+            let block = block_at(token.pending(), k);
             let begin = Mark {
                 strand: block.column,
                 stamp: block.begin,
             };
-            if !self.contains_in(tier, token, begin, last, looks, compares) {
+            if !self.contains_words(token, version, begin, last, looks, compares) {
                 return Some(block);
             }
         }
         None
     }
 
-    /// Returns what stands in the way of the token's next access, after the access `last`, by a tier that is out. `None` if nothing
-    /// does.
-    fn barrier<K: Ledger, L: Ledger>(
+    /// Searches for the outermost pending block around the token's place that is not above the access `last`, in one pass over the
+    /// words.
+    fn find_victim<K: Ledger, L: Ledger>(
         &self,
-        tier: &Tier,
         token: &mut StrandToken,
         last: Mark,
         looks: &mut Steps<K>,
         compares: &mut Steps<L>,
-    ) -> Option<Barrier>
+    ) -> Result<Option<Above>, Moved>
         requires table { IsTokenOf self.now.shared token.old }
-        requires few { columns.used tier.now.columns ≤ columns_of self.now }
         ensures read { HasRead token.old token.new }
-        ensures found { IfSome result (IsBarrier (cells_in self.now) last token.old token.new) }
+        ensures found { IfOk result (IsSearched (cells_in self.now) (columns_of self.now) last (outermost_first token.old) (view_of token.old).notes (view_of token.new).notes) }
+        ensures around { IfOk result (λ o. IfSome o (λ a. Contains (token_of token.old).around a.begin)) }
     {
-        let asker = token.column();
-        match self.ask_tier(tier, token, last, asker, looks, compares) {
-            Verdict::Against(block) => {
-                let victim = self.victim(tier, token, last, looks, compares);
-                Some(Barrier { block, victim })
-            }
-            Verdict::Free | Verdict::Within => None,
-        }
+        let before = self.version(token, looks);
+        let victim = self.victim_by_words(token, before, last, looks, compares);
+        let after = self.version(token, looks);
+        settled(before, after)?;
+        Ok(victim)
     }
 
-    fn judge_counted<R: Wait, K: Ledger, L: Ledger>(
+    fn judge_counted<K: Ledger, L: Ledger>(
         &self,
-        rt: &R,
         blanks: (Blank, Blank),
         token: &mut StrandToken,
         last: Mark,
-    ) -> Option<Barrier>
+    ) -> Result<Option<Barrier>, Moved>
         requires looks { (blanks.0.name ≡ K.name) × (blanks.0.parts ≡ K.parts) × (0 < K.parts) }
         requires compares { (blanks.1.name ≡ L.name) × (blanks.1.parts ≡ L.parts) × (0 < L.parts) }
         requires table { IsTokenOf self.now.shared token.old }
-        ensures table { IsTokenOf self.now.shared token.new }
-        ensures returned { HasReturned token.old.seat.me token.new.seat.me }
-        ensures track { token.new.track ≡ token.old.track }
-        ensures token { token_of token.new ≡ token_of token.old }
-        ensures found { IfSome result (IsBarrier (cells_in self.now) last token.old token.new) }
+        ensures read { HasRead token.old token.new }
+        ensures found { IfOk result (λ o. IfSome o (λ x. IsBarrier self.now last token.old (view_of token.old).notes (view_of token.new).notes x.block x.victim)) }
     {
         let mut looks = Steps::<K>::new(blanks.0);
         let mut compares = Steps::<L>::new(blanks.1);
-        let tier = self.borrow_tier(rt, token, Aim::Look);
-        let found = self.barrier(&tier, token, last, &mut looks, &mut compares);
-        self.return_tier(token, tier);
-        found
+        match self.ask_once(token, last, &mut looks, &mut compares)? {
+            Verdict::Against(block) => {
+                let victim = self.find_victim(token, last, &mut looks, &mut compares)?;
+                Ok(Some(Barrier { block, victim }))
+            }
+            Verdict::Free | Verdict::Within => Ok(None),
+        }
     }
 
-    /// Returns what stands in the way of the token's next access, after the access `last`, or `None`. Acquires the tier's lock and
-    /// releases it.
-    pub(crate) fn judge<R: Wait>(
+    /// Returns what stands in the way of the token's next access, after the access `last`, or `None`. Returns `Moved` if the tier was
+    /// changing. Takes no lock.
+    pub(crate) fn judge(
+        &self,
+        token: &mut StrandToken,
+        last: Mark,
+    ) -> Result<Option<Barrier>, Moved>
+        requires table { IsTokenOf self.now.shared token.old }
+        ensures read { HasRead token.old token.new }
+        ensures found { IfOk result (λ o. IfSome o (λ x. IsBarrier self.now last token.old (view_of token.old).notes (view_of token.new).notes x.block x.victim)) }
+    {
+        let blanks = (Blank::new(1), Blank::new(1));
+        self.judge_counted::<Brand, Brand>(blanks, token, last)
+    }
+
+    /// Returns what stands in the way of the token's next access, after the access `last`, or `None`. Asks again, after a pause, as
+    /// long as the tier was changing.
+    pub(crate) fn barrier<R: Wait>(
         &self,
         rt: &R,
         token: &mut StrandToken,
         last: Mark,
     ) -> Option<Barrier>
         requires table { IsTokenOf self.now.shared token.old }
-        ensures table { IsTokenOf self.now.shared token.new }
-        ensures returned { HasReturned token.old.seat.me token.new.seat.me }
-        ensures track { token.new.track ≡ token.old.track }
-        ensures token { token_of token.new ≡ token_of token.old }
-        ensures found { IfSome result (IsBarrier (cells_in self.now) last token.old token.new) }
+        ensures read { HasRead token.old token.new }
+        ensures found { IfSome result (λ x. IsBarrierAmong self.now last token.old (noted_since token.old token.new) x.block x.victim) }
     {
-        let blanks = (Blank::new(1), Blank::new(1));
-        self.judge_counted::<R, Brand, Brand>(rt, blanks, token, last)
-    }
-
-    /// Asks whether the access `last` and the token's next one conflict. Acquires the tier's lock and releases it.
-    pub fn ask<R: Wait, K: Ledger, L: Ledger>(
-        &self,
-        rt: &R,
-        token: &mut StrandToken,
-        last: Mark,
-        looks: &mut Steps<K>,
-        compares: &mut Steps<L>,
-    ) -> Verdict
-        requires of { IsOf self.now token.old }
-        ensures of { IsOf self.now token.new }
-        ensures token { token_of token.new ≡ token_of token.old }
-        ensures word { (track_of token.new.track).word ≡ (track_of token.old.track).word }
-        ensures answered { IsAnswered (cells_in self.now) last (track_of token.old.track).column token.new result }
-        ensures looks { looks.new ≤ looks.old + most_looks }
-        // no read is made that decides nothing
-        ensures needed { looks.new ≤ looks.old + looks_for result }
-        ensures compares { compares.new ≤ compares.old + 5 }
-    {
-        let asker = token.column();
-        let tier = self.borrow_tier(rt, token, Aim::Look);
-        let verdict = self.ask_tier(&tier, token, last, asker, looks, compares);
-        self.return_tier(token, tier);
-        verdict
+        for _ in rt.forever() {
+            if let Ok(found) = self.judge(token, last) {
+                return found;
+            }
+            spin_loop();
+        }
+        unreachable!()
     }
 }

@@ -79,6 +79,13 @@ impl Shared {
         self.cells
     }
 
+    /// Returns the number of columns that the tier may have.
+    pub fn columns(&self) -> u32
+        ensures { result ≡ (key_of self.now).columns }
+    {
+        self.columns
+    }
+
     /// Draws a number for `what`, and adds `what` to the token's log with that number.
     pub fn draw(&self, token: &mut StrandToken, what: Draw) -> u64
         requires table { IsTokenOf self.now token.old }

@@ -10,7 +10,7 @@ ghost use Rattle.cw_board.specs.Boards.{budget_of, cells_in, columns_of, table_o
 ghost use Rattle.tests_board.specs.Led.{IsLed};
 
 use cw_base::{OutOfMemory, Stack};
-use cw_board::{Board, BoardName};
+use cw_board::{Board, BoardName, Moved};
 use cw_log::{Above, Access, Forked, Logs, Phase};
 use cw_order::Steps;
 use cw_steps::StrandToken;
@@ -301,14 +301,13 @@ impl Stand {
     }
 }
 
-/// Returns the verdict on the access `last` and the token's next one.
-fn asks_counted<R: Wait, K: Ledger, L: Ledger>(
+/// Returns the verdict on the access `last` and the token's next one, or `Moved` if the tier was changing.
+fn asks_counted<K: Ledger, L: Ledger>(
     board: &Board,
-    rt: &R,
     blanks: (Blank, Blank),
     token: &mut StrandToken,
     last: Mark,
-) -> Verdict
+) -> Result<Verdict, Moved>
     requires looks { (blanks.0.name ≡ K.name) × (blanks.0.parts ≡ K.parts) × (0 < K.parts) }
     requires compares { (blanks.1.name ≡ L.name) × (blanks.1.parts ≡ L.parts) × (0 < L.parts) }
     requires of { IsOf board.now token.old }
@@ -317,16 +316,16 @@ fn asks_counted<R: Wait, K: Ledger, L: Ledger>(
 {
     let mut looks = Steps::<K>::new(blanks.0);
     let mut compares = Steps::<L>::new(blanks.1);
-    board.ask(rt, token, last, &mut looks, &mut compares)
+    board.ask(token, last, &mut looks, &mut compares)
 }
 
-fn asks<R: Wait>(board: &Board, rt: &R, token: &mut StrandToken, last: Mark) -> Verdict
+fn asks(board: &Board, token: &mut StrandToken, last: Mark) -> Result<Verdict, Moved>
     requires of { IsOf board.now token.old }
     ensures of { IsOf board.now token.new }
     ensures token { token_of token.new ≡ token_of token.old }
 {
     let blanks = (Blank::new(1), Blank::new(1));
-    asks_counted::<R, Brand, Brand>(board, rt, blanks, token, last)
+    asks_counted::<Brand, Brand>(board, blanks, token, last)
 }
 
 // ## Calls
@@ -452,11 +451,11 @@ impl<N: BoardName> Scene<N> {
         }
     }
 
-    pub(super) fn ask<R: Wait>(&self, rt: &R, led: Strand<N>, last: Mark) -> (Strand<N>, Verdict) {
+    pub(super) fn ask(&self, led: Strand<N>, last: Mark) -> (Strand<N>, Result<Verdict, Moved>) {
         let Strand { token, stand, .. } = led;
         let mut token = token;
-        let verdict = asks(&self.board, rt, &mut token, last);
-        (strand_of(token, stand), verdict)
+        let answer = asks(&self.board, &mut token, last);
+        (strand_of(token, stand), answer)
     }
 
     /// Forks a strand. Returns both strands, the right one with a token of its own.

@@ -6,7 +6,7 @@ ghost use Rattle.cw_board.specs.Boards.{budget_of, cells_in, columns_of, table_o
 
 use super::led::{Scene, Strand};
 use cw_base::OutOfMemory;
-use cw_board::{Board, BoardName};
+use cw_board::{Board, BoardName, Moved};
 use cw_code::Limits;
 use cw_log::Access;
 use cw_trace::Verdict;
@@ -98,8 +98,8 @@ fn value_told(text: &mut String, value: i64) -> Result<(), Fail> {
     Ok(())
 }
 
-fn verdict_told(text: &mut String, verdict: Verdict) -> Result<(), Fail> {
-    write!(text, "{verdict:?} ")?;
+fn answer_told(text: &mut String, answer: Result<Verdict, Moved>) -> Result<(), Fail> {
+    write!(text, "{answer:?} ")?;
     Ok(())
 }
 
@@ -177,15 +177,14 @@ fn chained<N: BoardName, R: Wait>(
     kept(led, told)
 }
 
-fn asked<N: BoardName, R: Wait>(
-    rt: &R,
+fn asked<N: BoardName>(
     scene: &Scene<N>,
     led: Strand<N>,
     last: Mark,
     text: &mut String,
 ) -> Result<Strand<N>, Fail> {
-    let (led, verdict) = scene.ask(rt, led, last);
-    kept(led, verdict_told(text, verdict))
+    let (led, answer) = scene.ask(led, last);
+    kept(led, answer_told(text, answer))
 }
 
 /// Makes a call other than fork or join, and writes what it returns.
@@ -200,7 +199,7 @@ fn told<N: BoardName, R: Wait>(
         Call::Read(_, cell) => accessed(rt, scene, led, (cell, None), text),
         Call::Write(_, cell, value) => accessed(rt, scene, led, (cell, Some(value)), text),
         Call::Chain(_, cell) => chained(rt, scene, led, cell, text),
-        Call::Ask(_, strand, stamp) => asked(rt, scene, led, Mark { strand, stamp }, text),
+        Call::Ask(_, strand, stamp) => asked(scene, led, Mark { strand, stamp }, text),
         Call::Begin(_)
         | Call::Commit(_)
         | Call::Out(_, _)
@@ -429,7 +428,7 @@ fn strands_take_turns(rt: HostRuntime) -> Result<(), Fail> {
                 Call::Commit(0),
                 Call::Out(0, 7),
             ],
-            "5 chain 1 Free 5 Within nodes 0 1 2-4 3 5 cell 1=5 3=5",
+            "5 chain 1 Ok(Free) 5 Ok(Within) nodes 0 1 2-4 3 5 cell 1=5 3=5",
         ),
         (
             "an update is lost in a block",
@@ -493,7 +492,7 @@ fn strands_take_turns(rt: HostRuntime) -> Result<(), Fail> {
                 Call::Join(0, 1),
                 Call::Merge(0),
             ],
-            "1 5 1 Free 2 2 nodes 0 1 0 2 0 4 0 3 5-9 6 8 0 7 cell 3=1 7=2 cell 4=5 6=1 8=2",
+            "1 5 1 Ok(Free) 2 2 nodes 0 1 0 2 0 4 0 3 5-9 6 8 0 7 cell 3=1 7=2 cell 4=5 6=1 8=2",
         ),
         (
             "a stolen branch is joined inside a block",
@@ -517,7 +516,7 @@ fn strands_take_turns(rt: HostRuntime) -> Result<(), Fail> {
                 Call::Join(0, 1),
                 Call::Merge(0),
             ],
-            "1 5 Against(2) conflict 0 last 4 asker 1 block 2 victim 0 attempt 1 of 4 conflict 0 last 4 asker 2 block 2 victim 0 attempt 2 of 4 1 2 nodes 0 1 0 2-7 3 0 5 0 4 6 0 0 0 8 refused 11 by 2 refused 12 by 2 cell 4=1 8=2 cell 5=5 6=1",
+            "1 5 Ok(Against(2)) conflict 0 last 4 asker 1 block 2 victim 0 attempt 1 of 4 conflict 0 last 4 asker 2 block 2 victim 0 attempt 2 of 4 1 2 nodes 0 1 0 2-7 3 0 5 0 4 6 0 0 0 8 refused 11 by 2 refused 12 by 2 cell 4=1 8=2 cell 5=5 6=1",
         ),
         (
             "a block is undone after one within it was committed",

@@ -1,4 +1,4 @@
-//! Threads that make accesses on one board at the same time.
+//! Threads that make accesses on one board at the same time, and threads that ask while others change the tier.
 ghost use Rattle.std.specs.Prelude.{◌≡◌};
 ghost use Rattle.cw_log.specs.Tokens.{root_token};
 ghost use Rattle.cw_steps.specs.Stands.{token_of};
@@ -6,11 +6,12 @@ ghost use Rattle.cw_board.specs.Boards.{budget_of, cells_in, columns_of, table_o
 
 use super::led::{Scene, Strand};
 use cw_base::OutOfMemory;
-use cw_board::{Board, BoardName};
+use cw_board::{Board, BoardName, Moved};
 use cw_code::Limits;
 use cw_log::Access;
 use cw_steps::StrandToken;
-use cw_tree::{Closed, Entry, Node};
+use cw_trace::Verdict;
+use cw_tree::{Closed, Entry, Mark, Node};
 use std::alloc::Global;
 use std::marker::Brand;
 use std::sync::Wait;
@@ -231,5 +232,178 @@ fn threads_count(rt: HostRuntime) -> Result<(), Fail> {
         assert!(rt; have_stamps?);
         assert!(rt; are_counted);
     }
+    Ok(())
+}
+
+/// How often each of two threads splits a fork and merges it.
+const CHANGES: u32 = 500;
+
+/// How often each of two other threads asks.
+const QUESTIONS: u32 = 50_000;
+
+/// The limits of a board with two columns for each fork.
+const WIDE: Limits = Limits {
+    fuel: 0,
+    size: 0,
+    aborts: 9,
+    strands: 2_100,
+    moves: 0,
+};
+
+/// The write of the left strand, which is in the block 2.
+const LAST: Mark = Mark {
+    strand: 1,
+    stamp: 3,
+};
+
+/// Splits a fork and merges it again, `times` times.
+fn changes<N: BoardName, R: Wait>(
+    rt: &R,
+    scene: &Scene<N>,
+    led: Strand<N>,
+    times: u32,
+) -> Result<Strand<N>, OutOfMemory> {
+    let mut led = led;
+    for _ in 0..times {
+        let (left, right) = parts(rt, scene, led)?;
+        led = meets(rt, scene, Ok(left), Ok(right))?;
+    }
+    Ok(led)
+}
+
+/// Whether it is an answer other than the block 2, which is pending and not above the asker.
+fn is_wrong(answer: Result<Verdict, Moved>) -> bool {
+    match answer {
+        Ok(Verdict::Against(block)) => block != 2,
+        Ok(Verdict::Free | Verdict::Within) => true,
+        Err(_) => false,
+    }
+}
+
+/// Asks about the write `times` times. Returns the strand, and whether an answer was wrong.
+fn asks<N: BoardName>(scene: &Scene<N>, led: Strand<N>, times: u32) -> (Strand<N>, bool) {
+    let mut led = led;
+    let mut wrong = false;
+    for _ in 0..times {
+        let (asked, answer) = scene.ask(led, LAST);
+        led = asked;
+        wrong = wrong || is_wrong(answer);
+    }
+    (led, wrong)
+}
+
+/// Both strands of a fork change the tier, each on a thread of its own.
+fn changers<N: BoardName, R: Threads + Wait + Sync>(
+    rt: &R,
+    scene: &Scene<N>,
+    led: Strand<N>,
+) -> Result<Strand<N>, OutOfMemory> {
+    let (left, right) = parts(rt, scene, led)?;
+    let (left, right) = join(
+        rt,
+        || changes(rt, scene, left, CHANGES),
+        || changes(rt, scene, right, CHANGES),
+    );
+    meets(rt, scene, left, right)
+}
+
+/// Both strands of a fork ask, each on a thread of its own. Returns the strand that forked, and whether an answer was wrong.
+fn askers<N: BoardName, R: Threads + Wait + Sync>(
+    rt: &R,
+    scene: &Scene<N>,
+    led: Strand<N>,
+) -> Result<(Strand<N>, bool), OutOfMemory> {
+    let (left, right) = parts(rt, scene, led)?;
+    let ((left, one), (right, other)) = join(
+        rt,
+        || asks(scene, left, QUESTIONS),
+        || asks(scene, right, QUESTIONS),
+    );
+    let led = meets(rt, scene, Ok(left), Ok(right))?;
+    Ok((led, one || other))
+}
+
+/// Begins a block and writes in it.
+fn writes<N: BoardName, R: Wait>(
+    rt: &R,
+    scene: &Scene<N>,
+    led: Strand<N>,
+) -> Result<Strand<N>, OutOfMemory> {
+    let led = scene.begin(led)?;
+    let (led, _) = granted(scene.access(rt, led, SHARED, Some(1))?)?;
+    Ok(led)
+}
+
+/// Joins both strands, the left one after its block was committed. Returns whether an answer was wrong.
+fn ends<N: BoardName, R: Wait>(
+    rt: &R,
+    scene: &Scene<N>,
+    left: Result<Strand<N>, OutOfMemory>,
+    right: Result<(Strand<N>, bool), OutOfMemory>,
+) -> Result<(Strand<N>, bool), OutOfMemory> {
+    match (left, right) {
+        (Ok(left), Ok((right, wrong))) => {
+            let left = scene.commit(left);
+            let led = meets(rt, scene, left, Ok(right))?;
+            Ok((led, wrong))
+        }
+        (left, right) => {
+            drop(left);
+            drop(right);
+            Err(OutOfMemory)
+        }
+    }
+}
+
+/// Two threads change the tier inside a pending block, while two ask about a write of it. Returns whether an answer was wrong.
+fn asked_while_changed<N: BoardName, R: Threads + Wait + Sync>(
+    rt: &R,
+    scene: &Scene<N>,
+    root: Strand<N>,
+) -> Result<(Strand<N>, bool), OutOfMemory> {
+    let (left, right) = parts(rt, scene, root)?;
+    let left = match writes(rt, scene, left) {
+        Ok(left) => left,
+        Err(fault) => {
+            drop(right);
+            return Err(fault);
+        }
+    };
+    let (left, right) = join(
+        rt,
+        || changers(rt, scene, left),
+        || askers(rt, scene, right),
+    );
+    ends(rt, scene, left, right)
+}
+
+fn has_asked<N: BoardName, R: Threads + Wait + Sync>(
+    rt: &R,
+    alloc: Global,
+    made: (Board, StrandToken),
+) -> Result<bool, OutOfMemory>
+    requires name { (table_of made.0 ≡ N.table) × (columns_of made.0 ≡ N.columns) }
+    requires size { (budget_of made.0 ≡ 9) × (cells_in made.0 ≡ 5) }
+    requires of { IsOf made.0 made.1 }
+    requires root { token_of made.1 ≡ root_token }
+{
+    let (board, token) = made;
+    let (scene, root) = Scene::<N>::new(alloc, board, token, 5, 9);
+    let found = asked_while_changed(rt, &scene, root);
+    drop(scene);
+    let (root, wrong) = found?;
+    drop(root);
+    Ok(!wrong)
+}
+
+fn has_asked_rightly<R: Threads + Wait + Sync>(rt: &R, alloc: Global) -> Result<bool, OutOfMemory> {
+    let made = Board::new(alloc, &[0, 0, 0, 0, 0], WIDE)?;
+    has_asked::<Brand, R>(rt, alloc, made)
+}
+
+#[test]
+fn threads_ask_while_others_change_the_tier(rt: HostRuntime) -> Result<(), Fail> {
+    let right = has_asked_rightly(&rt, rt.alloc())?;
+    assert!(rt; right);
     Ok(())
 }

@@ -1,24 +1,28 @@
-use Rattle.std.proofs.Common.{ℕ, ap, subst}
-use Rattle.cw_trace.specs.declared.verdict.Verdict.TheVariants.{Against}
-use Rattle.cw_steps.specs.Stands.{token_of}
-use Rattle.cw_board.specs.Asked.{IsAnswered}
-use Rattle.cw_board.specs.Boards.{cells_in}
-use Rattle.cw_board.proofs.Reading.{answered_later, answered_now, reads_then}
-use Rattle.cw_board.proofs.Refusing.{falls_around}
+use Rattle.std.proofs.Common.{◌∙◌, subst}
+use Rattle.std.specs.Prelude.{IfOk, IfSome, Option, Result}
+use Rattle.cw_steps.specs.Views.{view_of}
+use Rattle.cw_board.specs.Asked.{noted_since}
+use Rattle.cw_board.specs.Victims.{IsBarrier, IsBarrierAmong}
+use Rattle.cw_board.specs.declared.asking.Moved.{Moved}
+use Rattle.cw_board.specs.declared.victims.Barrier.{Barrier}
+use Rattle.cw_board.proofs.Passes.{barrier_since}
+use Rattle.cw_board.proofs.Reading.{reads_then}
+use Rattle.cw_board.proofs.Refusing.{some_too}
 use Rattle.cw_board.proofs.board.Board.barrier.Goals as goal
 
-pub returns-in-Against-clause-read : goal.returns-in-Against-clause-read
-returns-in-Against-clause-read g c = reads_then c.args.token.now c.ask_tier.new.token c.victim-victim.new.token c.ask_tier.ensures.read c.victim-victim.ensures.read
+pub returns-in-Ok-clause-read : goal.returns-in-Ok-clause-read
+returns-in-Ok-clause-read g c = reads_then c.args.token.now c.loop.token c.judge.new.token c.loop.invariant.1 c.judge.ensures.read
 
-pub returns-in-Against-clause-found : goal.returns-in-Against-clause-found
-returns-in-Against-clause-found g c =
-    let cells = cells_in c.args.self.now in
+pub returns-in-Ok-clause-found : goal.returns-in-Ok-clause-found
+returns-in-Ok-clause-found g c =
+    let b = c.args.self.now in
     let t = c.args.token.now in
-    let q = c.ask_tier in
-    let v = c.victim-victim in record {
-      against = subst (λ (n : ℕ). IsAnswered cells c.args.last n v.new.token (Against c.in-Against.block)) c.column-asker.ensures
-          (subst (IsAnswered cells c.args.last c.column-asker.result v.new.token) c.in-Against.is
-          (answered_later cells c.column-asker.result c.args.last q.new.token v.new.token v.ensures.read.notes q.result (ap (λ m. m.0.notes) v.ensures.read.me)
-          (answered_now c.args.tier.now.columns cells c.column-asker.result c.args.last t q.new.token q.result q.ensures.read q.ensures.given)));
-      around = falls_around (token_of t) (token_of q.new.token) v.result q.ensures.read.token v.ensures.around;
-    }
+    let u = c.loop.token in
+    let v = c.judge.new.token in
+    let P : Barrier → Type 0 = λ x. IsBarrier b c.args.last u (view_of u).notes (view_of v).notes x.block x.victim in
+    let Q : Barrier → Type 0 = λ x. IsBarrierAmong b c.args.last t (noted_since t v) x.block x.victim in
+    some_too P Q c.in-Ok.found (λ x h. barrier_since b c.args.last x.block x.victim t u v c.loop.invariant.1 h)
+    (subst (λ (r : Result (Option Barrier) Moved). IfOk r (λ o. IfSome o P)) c.in-Ok.is c.judge.ensures.found)
+
+pub loop-preserved : goal.loop-preserved
+loop-preserved g c = (c.judge.ensures.read.table ∙ c.loop.invariant.0, reads_then c.args.token.now c.loop.token c.judge.new.token c.loop.invariant.1 c.judge.ensures.read)

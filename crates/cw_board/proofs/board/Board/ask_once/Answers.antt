@@ -1,0 +1,34 @@
+use Rattle.std.proofs.Common.{ℕ, subst}
+use Rattle.cw_trace.specs.Query.{Gives}
+use Rattle.cw_board.specs.Asked.{noted_since, ToldBy}
+use Rattle.cw_board.specs.Boards.{cells_in, columns_of}
+use Rattle.cw_board.proofs.Passes.{one_pass}
+use Rattle.cw_board.proofs.Reading.{reads_then}
+use Rattle.cw_board.proofs.board.Board.ask_once.Goals as goal
+
+pub returns-in_err-settled-clause-read : goal.returns-in_err-settled-clause-read
+returns-in_err-settled-clause-read g c =
+    let one = c.version-before in
+    let two = c.ask_words-verdict in
+    let three = c.version-after in
+    reads_then c.args.token.now two.new.token three.new.token (reads_then c.args.token.now one.new.token two.new.token one.ensures.read two.ensures.read) three.ensures.read
+
+pub returns-clause-read : goal.returns-clause-read
+returns-clause-read g c =
+    let one = c.version-before in
+    let two = c.ask_words-verdict in
+    let three = c.version-after in
+    reads_then c.args.token.now two.new.token three.new.token (reads_then c.args.token.now one.new.token two.new.token one.ensures.read two.ensures.read) three.ensures.read
+
+pub returns-clause-answered : goal.returns-clause-answered
+returns-clause-answered g c =
+    let b = c.args.self.now in
+    let one = c.version-before in
+    let two = c.ask_words-verdict in
+    let three = c.version-after in
+    let told = ToldBy (cells_in b) (columns_of b) (noted_since one.new.token two.new.token) in
+    record {
+      heard = noted_since one.new.token two.new.token;
+      pass = one_pass (cells_in b) one.result three.result c.args.token.now one.new.token two.new.token three.new.token one.ensures.noted two.ensures.read three.ensures.noted c.in_ok-settled.ensures.ok.0 c.in_ok-settled.ensures.ok.1;
+      gives = subst (λ (n : ℕ). Gives told c.args.last n two.result) c.column-asker.ensures two.ensures.given;
+    }

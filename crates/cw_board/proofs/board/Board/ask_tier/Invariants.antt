@@ -1,6 +1,0 @@
-use Rattle.std.proofs.Common.{Some}
-use Rattle.cw_board.specs.Boards.{cells_in}
-use Rattle.cw_board.proofs.board.Board.ask_tier.Given as goal
-
-abbrev pub ghosts-ask_with : goal.ghosts-ask_with
-ghosts-ask_with g a = record { question = Some (record { token = a.reader.now.token; tier = a.reader.now.tier.now.columns; cells = cells_in a.reader.now.board.now }) }

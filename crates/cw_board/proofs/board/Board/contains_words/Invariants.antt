@@ -1,0 +1,6 @@
+use Rattle.std.proofs.Common.{Some}
+use Rattle.cw_board.specs.Boards.{cells_in, columns_of}
+use Rattle.cw_board.proofs.board.Board.contains_words.Given as goal
+
+abbrev pub ghosts-contains_with : goal.ghosts-contains_with
+ghosts-contains_with g a = record { question = Some (record { token = a.reader.now.token; cells = cells_in a.reader.now.board.now; columns = columns_of a.reader.now.board.now }) }
