@@ -1,6 +1,6 @@
 -- Serves `HasWaited` and `HasTaken`: a token that waits for a turn.
 use Rattle.std.proofs.Common.{◌≡◌, ◌∙◌, ◌+◌, ◌∷◌, [], List, length, ◌<◌, ◌≤◌, ℕ, ap, refl, sym, subst, arith, inl}
-use Rattle.std.specs.Prelude.{All, IsTrue, is_some, IsSomeAnd, Some, Result, Ok, Err, OnOk, OnErr}
+use Rattle.std.specs.Prelude.{All, IsTrue, is_some, IsSomeAnd, Result, Ok, Err, OnOk, OnErr}
 use Rattle.cw_steps.specs.declared.draw.Home.{Home}
 use Rattle.cw_steps.specs.declared.view.Whereabouts.{Whereabouts}
 use Rattle.cw_steps.specs.Tracks.{HasRoom}
@@ -24,19 +24,13 @@ use Rattle.cw_steps.specs.Views.{cell_in, gap_home, gave_view, held_by, key_of, 
 use Rattle.cw_board.specs.Boards.{cells_in, columns_of, IsOf}
 use Rattle.cw_board.specs.declared.board.Board.{Board}
 use Rattle.cw_board.specs.Sound.{IsSoundToken}
-use Rattle.cw_board.specs.Turns.{at_rest, HasCell, HasTier, HasTierOver, HasWaited, HasTaken, IsHolding, IsOfTier}
-use Rattle.cw_steps.specs.Leaving.{HasReturned}
+use Rattle.cw_board.specs.Turns.{at_rest, HasCell, HasTier, HasWaited, HasTaken, IsHolding, IsOfTier}
 use Rattle.cw_board.proofs.Sound.{sound_brought, sound_later}
 use Rattle.cw_board.proofs.Boards.{is_now}
-use Rattle.cw_board.proofs.Returning.{returned_from}
-use Rattle.cw_board.proofs.Showing.{as_it_was, cell_shown}
+use Rattle.cw_board.proofs.Showing.{cell_shown}
 
 pub waits_not : (t : StrandToken) → HasWaited t t
 waits_not t = record { notes = (view_of t).notes; me = refl; track = refl; stop = refl; token = refl }
-
--- it changes the tier no more than before
-pub waits_quiet : (t t' : StrandToken) → HasWaited t t' → IsQuiet (view_of t) → IsQuiet (view_of t')
-waits_quiet t t' h quiet = ap (λ m. newest_change m.0.turns) h.me ∙ quiet
 
 -- ## What lies in the slot
 
@@ -84,53 +78,6 @@ module _ (b : Board) (why : Aim) (n : ℕ) (t u : StrandToken) (h : HasTaken b w
 abbrev first_slot : List (ℕ × Slot) → Slot
 first_slot [] = slot.Empty
 first_slot (x ∷ xs) = x.1
-
--- the tier's turn, beside those that it had
-pub takes_over : (b : Board) (aim : Aim) (t u : StrandToken) (h : HasTaken b aim (cells_in b) t u) → IsTokenOf b.shared u → HasTierOver b h.takes.lay t u
-takes_over b aim t u h table =
-    let view = view_now b aim (cells_in b) t u h in record {
-      table = table;
-      turn = ap (λ (v : View). newest_slot v.turns) view;
-      older = ap (λ (v : View). older v.turns) view;
-      slots = ap (λ m. m.1) h.takes.after;
-      later = subst (λ (v : View). (view_of t).seen ≤ v.seen) (sym view) h.takes.later;
-      rest = ap at_rest view;
-      track = h.track;
-      token = h.token;
-    }
-
-pub over_other : (b : Board) (y z : Slot) (t u u' : StrandToken) → HasTierOver b y t u → IsTokenOf b.shared u' → view_of u' ≡ view_of u → held_by u' ≡ (cells_in b, z) ∷ rest (held_by u)
-    → u'.track ≡ u.track → token_of u' ≡ token_of u → HasTierOver b z t u'
-over_other b y z t u u' h table view slots track token = record {
-  table = table;
-  turn = ap (λ (v : View). newest_slot v.turns) view ∙ h.turn;
-  older = ap (λ (v : View). older v.turns) view ∙ h.older;
-  slots = slots ∙ ap (λ ys. (cells_in b, z) ∷ rest ys) h.slots;
-  later = subst (λ (v : View). (view_of t).seen ≤ v.seen) (sym view) h.later;
-  rest = ap at_rest view ∙ h.rest;
-  track = track ∙ h.track;
-  token = token ∙ h.token;
-}
-
-pub over_lies : (b : Board) (y z : Slot) (t u : StrandToken) (ys : List (ℕ × Slot)) → HasTierOver b y t u → held_by u ≡ (cells_in b, z) ∷ ys → y ≡ z
-over_lies b y z t u ys h e = ap first_slot (sym h.slots ∙ e)
-
-pub holding_over : (b : Board) (y : Slot) (t u : StrandToken) → HasTierOver b y t u → Holding u (cells_in b) y
-holding_over b y t u h = record { turn = h.turn; slot = h.slots ∙ ap (λ ys. (cells_in b, y) ∷ rest ys) (sym h.slots) }
-
--- that of a token that had none
-pub over_holds : (b : Board) (y : Slot) (t u : StrandToken) → IsOf b t → HasTierOver b y t u → IsHolding b (cells_in b) y t u
-over_holds b y t u of h = record {
-  was = of;
-  table = h.table;
-  turn = h.turn;
-  alone = h.older ∙ of.turns;
-  slots = h.slots ∙ ap (λ ys. (cells_in b, y) ∷ ys) of.slots;
-  later = h.later;
-  rest = h.rest;
-  track = h.track;
-  token = h.token;
-}
 
 -- another thing lies there now
 pub holds_other : (b : Board) (n : ℕ) (y z : Slot) (t u u' : StrandToken) → IsHolding b n y t u → IsTokenOf b.shared u' → view_of u' ≡ view_of u → held_by u' ≡ (n, z) ∷ rest (held_by u)
@@ -246,19 +193,3 @@ gives_tier b x m t u h tier brings shown = record {
   cell = tt;
   shown = shown;
 }
-
--- the tier that was only looked at
-pub gives_over : (b : Board) (x : Traces) (t u : StrandToken) → HasTierOver b (slot.Tier x) t u → HasTier b (slot.Tier x) u → newest_tier (view_of u).turns ≡ Some x → IsQuiet (view_of u)
-    → MayGive (key_of b.shared) u (cells_in b) home.Plain
-gives_over b x t u h tier lay quiet = record {
-  lies = slot.Tier x;
-  held = holding_over b (slot.Tier x) t u h;
-  whole = record { cell = λ less. absurd (omega (arith, less)); tier = λ e. tier.whole };
-  tier = subst (λ o. ComesHome (view_of u).fork (view_of u).phase (newest_aim (view_of u).turns) home.Plain o (slot.Tier x)) (sym lay) refl;
-  cell = tt;
-  shown = as_it_was x (newest_tier (view_of u).turns) (newest_change (view_of u).turns) lay quiet;
-}
-
--- the tier was only looked at
-pub gives_back : (b : Board) (y : Slot) (t u u' : StrandToken) → HasTierOver b y t u → view_of u' ≡ gave_view home.Plain (view_of u) → held_by u' ≡ rest (held_by u) → HasReturned t.seat.me u'.seat.me
-gives_back b y t u u' h view slots = returned_from t u' (ap at_rest view ∙ h.rest) (ap (λ (v : View). v.turns) view ∙ h.older) (slots ∙ ap (λ ys. rest ys) h.slots) (subst (λ (v : View). (view_of t).seen ≤ v.seen) (sym view) h.later)

@@ -17,7 +17,7 @@ use Rattle.cw_trace.specs.Touched.{TouchedAreListed}
 use Rattle.cw_trace.specs.Traces.{Traces}
 use Rattle.cw_steps.specs.Homes.{IsAsItLay}
 use Rattle.cw_steps.specs.Views.{drew_view, gave_view, held_by, key_of, newest_aim, newest_cell, newest_slot, newest_used, older, view_of, with_change, CanFork, IsTierOf, IsTokenOf, TakesIt}
-use Rattle.cw_board.specs.Boards.{cells_in, columns_of, IsOf}
+use Rattle.cw_board.specs.Boards.{columns_of, IsOf}
 use Rattle.cw_log.specs.declared.board.Forked.{Forked}
 use Rattle.cw_log.specs.declared.board.Forked.TheVariants.{Two, Inline}
 use Rattle.cw_board.specs.declared.board.Board.{Board}
@@ -55,17 +55,6 @@ pub record IsHolding (b : Board) (n : ℕ) (y : Slot) (t u : StrandToken) : Type
   pub track : u.track ≡ t.track
   pub token : token_of u ≡ token_of t
 
--- Since it was `t`, the token took the tier's turn beside those that it had, and `y` lies there now.
-pub record HasTierOver (b : Board) (y : Slot) (t u : StrandToken) : Type 0 where
-  pub table : IsTokenOf b.shared u
-  pub turn : newest_slot (view_of u).turns ≡ Some (cells_in b)
-  pub older : older (view_of u).turns ≡ (view_of t).turns
-  pub slots : held_by u ≡ (cells_in b, y) ∷ held_by t
-  pub later : (view_of t).seen ≤ (view_of u).seen
-  pub rest : at_rest (view_of u) ≡ at_rest (view_of t)
-  pub track : u.track ≡ t.track
-  pub token : token_of u ≡ token_of t
-
 -- It has the turn of the tier, whose columns in use are as many as that turn says. Its own column and gap are among them.
 pub record HasTier (b : Board) (y : Slot) (u : StrandToken) : Type 0 where
   pub few : newest_used (view_of u).turns ≤ columns_of b
@@ -92,7 +81,8 @@ IsOfTier (home.Early before used) = Unit {0}
 
 -- ## Changes of the tier
 
--- A fork, a split or a merge made `come` of the tier that lay there.
+-- A call made `come` of the tier that lay there: the labels go in the order of the marks, and each column whose row it changed is
+-- listed.
 pub record IsChanged (lay come : Traces) : Type 0 where
   pub labels : AreLabels come.columns come.labels
   pub touched : TouchedAreListed lay come
