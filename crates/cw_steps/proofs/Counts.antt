@@ -1,15 +1,16 @@
 -- Sums over the views of all seats (`Totals`), and turns among those of one seat (`turns_of`).
 use Rattle.std.proofs.Common.{◌≡◌, ◌≢◌, ℕ, zero, suc, ◌+◌, ◌<◌, ◌≤◌, List, [], ◌∷◌, ◌++◌, refl, ap, sym, arith, Bool, set, inl, inr, eq-eqb}
 use Rattle.std.specs.Prelude.{ℤ, All}
-use Rattle.std.specs.Prelude.{if◌then◌else◌, ◌==◌, Option, Some, unwrap_or}
+use Rattle.std.specs.Prelude.{if◌then◌else◌, ◌==◌, Option, Some, None, unwrap_or}
 use Rattle.std.proofs.lemmas.Bool.Decides.{eqb_tells}
 use Rattle.std.proofs.lemmas.List.Elements.{All-nil, All-cons, All-head, All-tail}
 use mathlib.Core.Option.{some, some-injective, some-ne-none}
 use lib.ListN.{get_elem?}
 use Rattle.cw_tree.specs.declared.access.Mark.{Mark}
+use Rattle.cw_steps.specs.declared.view.Change.{Change}
 use Rattle.cw_steps.specs.declared.view.Turn.{Turn}
 use Rattle.cw_steps.specs.Totals.{total}
-use Rattle.cw_steps.specs.Views.{cell_with, turns_of, with_access, with_more, newest_slot, newest_used, older}
+use Rattle.cw_steps.specs.Views.{cell_with, turns_of, with_access, with_come, with_more, newest_slot, newest_used, older}
 
 module _ {A : Type 0} (f : A → ℕ) where
   pub total_set : (xs : List A) (i : ℕ) (v w : A) → get_elem? xs i ≡ some v → total f (set xs i w) + f v ≡ total f xs + f w
@@ -44,10 +45,15 @@ turn_here n t e = ap {B = ℕ} bit (eq-eqb t.slot n e)
 pub turn_else : (n : ℕ) (t : Turn) → t.slot ≢ n → bit (t.slot == n) ≡ 0
 turn_else n t ne = elim (eqb_tells t.slot n) [ inl z ↦ absurd (ne z.1) | inr z ↦ ap {B = ℕ} bit z.0 ]
 
+-- the tier that a change brought lies in the same slot
+pub come_slot : (o : Option Change) (t : Turn) → (with_come o t).slot ≡ t.slot
+come_slot None t = refl
+come_slot (Some ch) t = refl
+
 -- columns are no matter of whose turn it is
-pub turns_more : (n k w c : ℕ) (ts : List Turn) → turns_of n (with_more k w c ts) ≡ turns_of n ts
-turns_more n k w c [] = refl
-turns_more n k w c (t ∷ ts) = refl
+pub turns_more : (n k : ℕ) (ts : List Turn) → turns_of n (with_more k ts) ≡ turns_of n ts
+turns_more n k [] = refl
+turns_more n k (t ∷ ts) = ap (λ (j : ℕ). bit (j == n) + turns_of n ts) (come_slot t.change t)
 
 -- nor is what an access leaves in the cell
 pub turns_access : (n : ℕ) (m : Mark) (w : Bool) (x : ℤ) (ts : List Turn) → turns_of n (with_access m w x ts) ≡ turns_of n ts

@@ -9,13 +9,13 @@ use Rattle.cw_stack.specs.Cells.{CellParts, AreSteps}
 use Rattle.cw_steps.specs.Leaving.{HasReturned, IsFoundJournal}
 use Rattle.cw_steps.specs.declared.draw.Aim.TheVariants.{Look}
 use Rattle.cw_steps.specs.declared.draw.Home.TheVariants as home
-use Rattle.cw_steps.specs.Homes.{CellComesHome, MayGive}
+use Rattle.cw_steps.specs.Homes.{CellComesHome, IsAsShown, MayGive}
 use Rattle.cw_steps.specs.declared.table.StrandToken.{StrandToken}
 use Rattle.cw_steps.specs.declared.view.Key.{Key}
 use Rattle.cw_steps.specs.declared.view.Slot.{Slot}
 use Rattle.cw_steps.specs.declared.view.Slot.TheVariants as slot
 use Rattle.cw_steps.specs.declared.view.View.{View}
-use Rattle.cw_steps.specs.Views.{cell_in, gave_view, held_by, newest_aim, newest_cell, newest_slot, newest_used, took_view, view_of, IsWhole, TakesIt}
+use Rattle.cw_steps.specs.Views.{cell_in, gave_view, held_by, newest_aim, newest_cell, newest_change, newest_slot, newest_tier, newest_used, took_view, view_of, IsQuiet, IsWhole, TakesIt}
 
 pub looks_not : (me : Me Slot View) → HasReturned me me
 looks_not me = record { seen = me.0.seen; notes = me.0.notes; later = omega arith; after = refl }
@@ -27,6 +27,10 @@ looks_more a b c h g = record {
   later = omega (arith, h.later, subst (λ (m : Me Slot View). m.0.seen ≤ g.seen) h.after g.later);
   after = g.after ∙ ap (λ (m : Me Slot View). (record m.0 { seen = g.seen; notes = g.notes }, m.1)) h.after;
 }
+
+-- a seat that only looked has begun no change
+pub quiet_still : (me me' : Me Slot View) → IsQuiet me.0 → HasReturned me me' → IsQuiet me'.0
+quiet_still me me' quiet h = ap (λ (m : Me Slot View). newest_change m.0.turns) h.after ∙ quiet
 
 abbrev first_slot : List (ℕ × Slot) → Slot
 first_slot [] = slot.Empty
@@ -66,6 +70,7 @@ module _ (key : Key) (n : ℕ) (t u : StrandToken) (takes : TakesIt key Look n t
       whole = subst (λ (z : View). IsWhole key z.seen (newest_used z.turns) n (slot.Cell x)) (sym view_now) (subst (IsWhole key takes.clock takes.used n) lay takes.whole);
       tier = tt;
       cell = subst (λ (z : View). CellComesHome n home.Plain (newest_aim z.turns) (newest_cell z.turns) (slot.Cell x)) (sym view_now) (subst (λ o. CellComesHome n home.Plain Look o (slot.Cell x)) (sym (ap cell_in lay)) (tt, (refl, refl)));
+      shown = subst (λ (z : View). IsAsShown (newest_tier z.turns) (newest_change z.turns) (slot.Cell x)) (sym view_now) tt;
     }
 
     pub looked_then : (t' : StrandToken) → view_of t' ≡ gave_view home.Plain (view_of w) → held_by t' ≡ rest (held_by w) → HasReturned t.seat.me t'.seat.me

@@ -12,7 +12,7 @@ use Rattle.cw_steps.specs.declared.view.Slot.{Slot}
 use Rattle.cw_steps.specs.declared.view.Turn.{Turn}
 use Rattle.cw_steps.specs.declared.view.View.{View}
 use Rattle.cw_steps.specs.Totals.{total}
-use Rattle.cw_steps.specs.Views.{cells_of, share, has_turn, turns_of, tier_with, with_more, newest_slot, newest_used, columns_for, drew, drew_view, CanDraw, CanFork}
+use Rattle.cw_steps.specs.Views.{cells_of, share, has_turn, turns_of, with_come, with_more, newest_slot, newest_used, columns_for, drew, drew_view, CanDraw, CanFork}
 use Rattle.cw_steps.specs.Rule.{Holds, Tiers, StandsIn, ComesIn, WaitsIn}
 use Rattle.cw_steps.proofs.Counts.{total_part, turns_access, turns_more, used_access, newest_brings, newest_is_one, none_of, turn_here}
 use Rattle.cw_steps.proofs.Concerns.Clock.{clock_set}
@@ -79,12 +79,12 @@ module _ (key : Key) (s : State Slot View) (h : Holds key s) (id : ℕ) (v : Vie
         omega (arith, part, h.turns.one (cells_of key) (omega arith), h.turns.bits (cells_of key) (omega arith), newest_is_one (cells_of key) v.turns can.turn)
 
     brings : (ts : List Turn) → All (λ (t : Turn). t.slot ≡ cells_of key → t.used ≡ h.used) ts → newest_slot ts ≡ Some (cells_of key) → turns_of (cells_of key) ts ≡ 1
-        → All (λ (t : Turn). t.slot ≡ cells_of key → t.used ≡ more) (with_more (columns_for left right) v.word v.column ts)
+        → All (λ (t : Turn). t.slot ≡ cells_of key → t.used ≡ more) (with_more (columns_for left right) ts)
     brings [] all e one = absurd (cc e)
     brings (t ∷ ts) all e one =
         let same : t.slot ≡ cells_of key = ap (λ (o : Option ℕ). unwrap_or o 0) e in
-        All-cons (λ (t : Turn). t.slot ≡ cells_of key → t.used ≡ more) (record t { tier = tier_with (columns_for left right) v.word v.column t.tier; used = t.used + columns_for left right }) ts
-        (λ z. omega (arith, All-head (λ (t : Turn). t.slot ≡ cells_of key → t.used ≡ h.used) t ts all z))
+        All-cons (λ (t : Turn). t.slot ≡ cells_of key → t.used ≡ more) (record (with_come t.change t) { used = t.used + columns_for left right }) ts
+        (λ z. omega (arith, All-head (λ (t : Turn). t.slot ≡ cells_of key → t.used ≡ h.used) t ts all same))
         (none_of (cells_of key) (λ (u : Turn). u.used ≡ more) ts (omega (arith, one, turn_here (cells_of key) t same)))
 
     stands : (b : Bool) → left ≡ (if b then v.column else h.used) → right ≡ (if b then left else suc left) → gap < h.used + (if b then 0 else 2)
@@ -111,7 +111,7 @@ module _ (key : Key) (s : State Slot View) (h : Holds key s) (id : ℕ) (v : Vie
     owns_for false = omega arith
 
     pub fork_rule : (c : List (ℕ × Slot)) → Holds key (stepped s 0 (next % 2 ^ 64) id c w keeps)
-    fork_rule = draw_rule w more (omega (arith, some_room)) refl (λ n. turns_more n (columns_for left right) v.word v.column v.turns) (owns_for (left == right)) refl refl
+    fork_rule = draw_rule w more (omega (arith, some_room)) refl (λ n. turns_more n (columns_for left right) v.turns) (owns_for (left == right)) refl refl
         (tiers_grow (cells_of key) key.columns h.used more s.words words s.homes s.views id v w at h.turns h.tiers (other (cells_of key)) mine (omega arith) (omega (arith, now, can.few))
         (brings v.turns (h.tiers.held id v at) can.turn mine) stands_now)
 

@@ -10,7 +10,7 @@ use Rattle.cw_steps.specs.declared.view.Key.{Key}
 use Rattle.cw_steps.specs.declared.view.Slot.{Slot}
 use Rattle.cw_steps.specs.declared.view.View.{View}
 use Rattle.cw_steps.specs.Views.{cells_of, turns_of, set_stop, halted_view, marked, marked_view, noted_view, told, told_view, found, weighed}
-use Rattle.cw_steps.specs.Rule.{Holds, StopWord, ComesIn, WaitsIn}
+use Rattle.cw_steps.specs.Rule.{Holds, BringsHome, StopWord, ComesIn, WaitsIn}
 use Rattle.atomic_table.proofs.Lists.{set_again}
 use Rattle.cw_steps.specs.Totals.{total}
 use Rattle.cw_steps.proofs.Counts.{total_part}
@@ -28,19 +28,20 @@ module _ (key : Key) (s : State Slot View) (h : Holds key s) (id : ℕ) (v : Vie
   clock : slice_index (set s.words i x) 0 ≡ slice_index s.words 0
   clock = word_else s.words i 0 x (λ e. omega (arith, beyond))
 
-  -- a word behind the turns is written, by a seat that keeps its turns and columns
-  pub mark_rule : (w : View) → w.room ≡ v.room → w.seen ≡ v.seen → w.turns ≡ v.turns → w.column ≡ v.column → w.gap ≡ v.gap → w.coming ≡ v.coming → w.outer ≡ v.outer → w.owns ≡ v.owns
+  -- a word behind the turns is written, by a seat that keeps its columns and the slots of its turns
+  pub mark_rule : (w : View) → w.room ≡ v.room → w.seen ≡ v.seen → ((n : ℕ) → turns_of n w.turns ≡ turns_of n v.turns) → BringsHome (cells_of key) h.used w
+      → w.column ≡ v.column → w.gap ≡ v.gap → w.coming ≡ v.coming → w.outer ≡ v.outer → w.owns ≡ v.owns
       → StopWord (cells_of key) (set s.words i x) (set s.views id w) → (c : List (ℕ × Slot)) → Holds key (stepped s i x id c w keeps)
-  mark_rule w room seen turns column gap coming outer owns stops c = record {
+  mark_rule w room seen turns brings column gap coming outer owns stops c = record {
     long = length-set s.words i x ∙ h.long;
     deep = h.deep;
     small = h.small;
     used = h.used;
     clock = clock_set key.columns h.used h.used s.words (set s.words i x) s.views id v w at h.clock (omega (arith, clock)) (omega (arith, clock, room)) (omega (arith, clock, seen, h.clock.seen id v at)) (omega (arith, owns));
-    turns = turns_stay (cells_of key) s.words (set s.words i x) s.views id v w at h.turns other (λ n. ap (turns_of n) turns);
+    turns = turns_stay (cells_of key) s.words (set s.words i x) s.views id v w at h.turns other turns;
     cells = cells_stay (cells_of key) s.words (set s.words i x) s.homes h.cells (omega (arith, clock)) other;
     tiers = tiers_set (cells_of key) key.columns h.used s.words (set s.words i x) s.homes s.homes s.views id w h.tiers (λ free. inl (sym (other (cells_of key) (omega arith)) ∙ free, refl))
-        (subst (All (λ t. t.slot ≡ cells_of key → t.used ≡ h.used)) (sym turns) (h.tiers.held id v at))
+        brings
         (let b = h.tiers.stands id v at in record { column = omega (arith, b.column, column); gap = omega (arith, b.gap, gap); coming = subst (ComesIn h.used) (sym coming) b.coming; outer = subst (All (WaitsIn h.used)) (sym outer) b.outer });
     stops = stops;
   }
@@ -50,7 +51,7 @@ marks key slots id me i x beyond s h deep at bound = (
   marked_view i x me.0,
   keeps,
   tt,
-  mark_rule key s h id me.0 at i x (omega arith) (marked_view i x me.0) refl refl refl refl refl refl refl refl
+  mark_rule key s h id me.0 at i x (omega arith) (marked_view i x me.0) refl refl (λ n. refl) (h.tiers.held id me.0 at) refl refl refl refl refl
       (stops_stay (cells_of key) s.words (set s.words i x) s.views id me.0 (marked_view i x me.0) at h.stops (word_else s.words i (cells_of key + 2) x (λ e. omega arith)) refl refl) me.1,
   refl,
 )
@@ -60,7 +61,7 @@ stops_here key halt slots id me i e s h deep at bound = (
   halted_view i halt me.0,
   keeps,
   tt,
-  mark_rule key s h id me.0 at i 1 (omega arith) (halted_view i halt me.0) refl refl refl refl refl refl refl refl
+  mark_rule key s h id me.0 at i 1 (omega arith) (halted_view i halt me.0) refl refl (λ n. refl) (h.tiers.held id me.0 at) refl refl refl refl refl
       (stops_set (cells_of key) s.words (set s.words i 1) s.views id me.0 (halted_view i halt me.0) at h.stops (λ z. refl) (λ p. inr refl) (λ t. inl t)) me.1,
   (refl, refl),
 )
@@ -69,7 +70,7 @@ stops_here key halt slots id me i e s h deep at bound = (
 module _ (key : Key) (id : ℕ) (me : Me Slot View) (i : ℕ) (beyond : cells_of key + 1 < i) where
   looks : (s : State Slot View) (h : Holds key s) → get_elem? s.views id ≡ some me.0 → (w : View) → w.room ≡ me.0.room → w.seen ≡ me.0.seen → w.turns ≡ me.0.turns → w.column ≡ me.0.column → w.gap ≡ me.0.gap
       → w.coming ≡ me.0.coming → w.outer ≡ me.0.outer → w.owns ≡ me.0.owns → StopWord (cells_of key) (set s.words i (slice_index s.words i)) (set s.views id w) → Holds key (stepped s i (slice_index s.words i) id me.1 w keeps)
-  looks s h at w room seen turns column gap coming outer owns stops = mark_rule key s h id me.0 at i (slice_index s.words i) beyond w room seen turns column gap coming outer owns stops me.1
+  looks s h at w room seen turns column gap coming outer owns stops = mark_rule key s h id me.0 at i (slice_index s.words i) beyond w room seen (λ n. ap (turns_of n) turns) (subst (All (λ t. t.slot ≡ cells_of key → t.used ≡ h.used)) (sym turns) (h.tiers.held id me.0 at)) column gap coming outer owns stops me.1
 
   same_word : (s : State Slot View) (j : ℕ) → slice_index (set s.words i (slice_index s.words i)) j ≡ slice_index s.words j
   same_word s j = ap (λ (ws : List ℕ). slice_index ws j) (set-get_or s.words i 0)

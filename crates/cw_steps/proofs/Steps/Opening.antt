@@ -15,9 +15,9 @@ use Rattle.cw_steps.specs.declared.view.Slot.TheVariants as slot
 use Rattle.cw_steps.specs.declared.view.Turn.{Turn}
 use Rattle.cw_steps.specs.declared.view.View.{View}
 use Rattle.cw_tree.specs.declared.access.Entry.{Entry}
-use Rattle.cw_steps.specs.Places.{all_words}
+use Rattle.cw_steps.specs.Places.{all_words, column_words}
 use Rattle.cw_steps.specs.Views.{cells_of, fresh_slot, root_view, IsTierOf}
-use Rattle.cw_steps.specs.Rule.{Holds, IsCellHome, IsTierHome}
+use Rattle.cw_steps.specs.Rule.{Holds, IsCellHome}
 
 zeros : (n i : ℕ) → slice_index (replicate n 0) i ≡ 0
 zeros zero i = refl
@@ -45,23 +45,24 @@ the_root : (P : View → Type 0) (k : ℕ) (v : View) → get_elem? (root_view �
 the_root P zero v at p = subst P (some-injective root_view v at) p
 the_root P (suc k) v at p = absurd (some-ne-none v (sym at))
 
-pub opens : (key : Key) (y : Slot) → 0 < key.columns → key.columns < 2 ^ 31 → IsTierOf key.columns 1 y
-    → Holds key (opening (replicate (all_words (cells_of key) key.columns) 0) (map fresh_slot key.first ++ y ∷ []) root_view)
-opens key y some_columns few tier = record {
-  long = many (all_words (cells_of key) key.columns);
+-- the words up to the first of a column are all 0
+pub opens : (key : Key) (words : List ℕ) (y : Slot) → length words ≡ all_words (cells_of key) key.columns → ((k : ℕ) → k < column_words (cells_of key) key.columns → slice_index words k ≡ 0)
+    → 0 < key.columns → key.columns < 2 ^ 31 → IsTierOf key.columns 1 y → Holds key (opening words (map fresh_slot key.first ++ y ∷ []) root_view)
+opens key words y long low some_columns few tier = record {
+  long = long;
   deep = so_many key.first y;
   small = few;
   used = 1;
   clock = record {
-    room = omega (arith, zeros (all_words (cells_of key) key.columns) 0);
-    seen = λ k v at. the_root (λ u. u.seen ≤ slice_index (replicate (all_words (cells_of key) key.columns) 0) 0) k v at (omega arith);
+    room = omega (arith, low 0 (omega arith));
+    seen = λ k v at. the_root (λ u. u.seen ≤ slice_index words 0) k v at (omega arith);
     owned = omega arith;
   };
   turns = record {
-    bits = λ n p. omega (arith, zeros (all_words (cells_of key) key.columns) (suc n));
-    one = λ n p. sym (zeros (all_words (cells_of key) key.columns) (suc n));
+    bits = λ n p. omega (arith, low (suc n) (omega (arith, p)));
+    one = λ n p. sym (low (suc n) (omega (arith, p)));
   };
-  cells = record { home = λ n p free. at_cell key.first y (slice_index (replicate (all_words (cells_of key) key.columns) 0) 0) n p };
+  cells = record { home = λ n p free. at_cell key.first y (slice_index words 0) n p };
   tiers = record {
     few = omega arith;
     home = λ free. (y, at_tier key.first y, tier);
@@ -69,16 +70,21 @@ opens key y some_columns few tier = record {
     stands = λ k v at. the_root (Rattle.cw_steps.specs.Rule.StandsIn 1) k v at (record { column = omega arith; gap = omega arith; coming = tt; outer = All-nil (Rattle.cw_steps.specs.Rule.WaitsIn 1) });
   };
   stops = record {
-    word = λ p. absurd (omega (arith, zeros (all_words (cells_of key) key.columns) (cells_of key + 2)));
+    word = λ p. absurd (omega (arith, p, low (cells_of key + 2) (omega arith)));
     told = λ k v at t. absurd (the_root (λ u. u.told ≡ true → ⊥) k v at (λ e. cc e) t);
   };
 }
 
-pub opens_as : (key : Key) (words : List ℕ) (slots : List Slot) (x : Traces) → words ≡ replicate (all_words (cells_of key) key.columns) 0 → slots ≡ map fresh_slot key.first ++ slot.Tier x ∷ []
+-- the root's row was written over words that were all 0
+pub opens_as : (key : Key) (cells : ℕ) (blank words : List ℕ) (slots : List Slot) (x : Traces) → cells ≡ cells_of key
+    → blank ≡ replicate (all_words cells key.columns) 0 → length words ≡ length blank → ((k : ℕ) → k < column_words cells key.columns → slice_index words k ≡ slice_index blank k)
+    → slots ≡ map fresh_slot key.first ++ slot.Tier x ∷ []
     → 0 < key.columns → key.columns < 2 ^ 31 → x.columns ≡ first_tier key.columns → Holds key (opening words slots root_view)
-opens_as key words slots x ew es some_columns few first =
-    subst (λ ws. Holds key (opening ws slots root_view)) (sym ew) (subst (λ ys. Holds key (opening (replicate (all_words (cells_of key) key.columns) 0) ys root_view)) (sym es)
-    (opens key (slot.Tier x) some_columns few (ap (λ c. c.room) first, ap used first)))
+opens_as key cells blank words slots x ec eb long low es some_columns few first =
+    subst (λ ys. Holds key (opening words ys root_view)) (sym es)
+    (opens key words (slot.Tier x) (long ∙ ap length eb ∙ many (all_words cells key.columns) ∙ ap (λ n. all_words n key.columns) ec)
+    (λ k p. low k (omega (arith, p, ec)) ∙ ap (λ (ws : List ℕ). slice_index ws k) eb ∙ zeros (all_words cells key.columns) k)
+    some_columns few (ap (λ c. c.room) first, ap used first))
 
 -- ## Cells with their first values
 
