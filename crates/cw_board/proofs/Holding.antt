@@ -1,6 +1,6 @@
 -- Serves `HasWaited` and `HasTaken`: a token that waits for a turn.
 use Rattle.std.proofs.Common.{◌≡◌, ◌∙◌, ◌+◌, ◌∷◌, [], List, length, ◌<◌, ◌≤◌, ℕ, ap, refl, sym, subst, arith, inl}
-use Rattle.std.specs.Prelude.{All, IsTrue, is_some, IsSomeAnd, Some, Result, Ok, Err, OnOk, OnErr}
+use Rattle.std.specs.Prelude.{All, IsTrue, is_some, IsSomeAnd, Result, Ok, Err, OnOk, OnErr}
 use Rattle.cw_steps.specs.declared.draw.Home.{Home}
 use Rattle.cw_steps.specs.declared.view.Whereabouts.{Whereabouts}
 use Rattle.cw_steps.specs.Tracks.{HasRoom}
@@ -31,10 +31,6 @@ use Rattle.cw_board.proofs.Showing.{cell_shown}
 
 pub waits_not : (t : StrandToken) → HasWaited t t
 waits_not t = record { notes = (view_of t).notes; me = refl; track = refl; stop = refl; token = refl }
-
--- it changes the tier no more than before
-pub waits_quiet : (t t' : StrandToken) → HasWaited t t' → IsQuiet (view_of t) → IsQuiet (view_of t')
-waits_quiet t t' h quiet = ap (λ m. newest_change m.0.turns) h.me ∙ quiet
 
 -- ## What lies in the slot
 

@@ -1,10 +1,8 @@
--- Serves `IsOnePass`, `HasMoved` and `IsBarrierAmong`: words that were heard between two loads of the version.
-use Rattle.std.proofs.Common.{◌≡◌, ◌∙◌, ℕ, ◌-◌, ◌≤◌, List, [], ◌∷◌, ◌++◌, ◌+◌, length, length-append, take, drop, ap, refl, sym, subst, arith, append_assoc, reverse}
-use Rattle.std.specs.Prelude.{◌%◌, ◌⊎◌, Option}
+-- Serves `IsOnePass` and `IsBarrierAmong`: words that were heard between two loads of the version.
+use Rattle.std.proofs.Common.{◌≡◌, ◌∙◌, ℕ, ◌-◌, List, [], ◌∷◌, ◌++◌, ◌+◌, length, length-append, take, drop, ap, refl, sym, subst, arith, append_assoc, reverse}
+use Rattle.std.specs.Prelude.{◌%◌, Option}
 use Rattle.std.proofs.Math.Seq.{take-add}
 use Rattle.cw_tree.specs.declared.access.Mark.{Mark}
-use Rattle.cw_trace.specs.Query.{Gives}
-use Rattle.cw_trace.specs.declared.verdict.Verdict.{Verdict}
 use Rattle.cw_trace.specs.declared.verdict.Verdict.TheVariants.{Against}
 use Rattle.cw_log.specs.declared.log.Above.{Above}
 use Rattle.cw_log.specs.declared.token.Token.{Token}
@@ -13,30 +11,21 @@ use Rattle.cw_steps.specs.declared.table.StrandToken.{StrandToken}
 use Rattle.cw_steps.specs.declared.view.WordNote.{WordNote}
 use Rattle.cw_steps.specs.Stands.{token_of}
 use Rattle.cw_steps.specs.Tracks.{track_of, TrackParts}
-use Rattle.cw_steps.specs.declared.draw.Aim.{Aim}
-use Rattle.cw_steps.specs.declared.view.Key.{Key}
-use Rattle.cw_steps.specs.Views.{view_of, LeavesIt, TakesIt}
-use Rattle.cw_board.specs.declared.asking.Moved.{Moved}
+use Rattle.cw_steps.specs.Views.{noted_view, view_of, LeavesIt}
 use Rattle.cw_board.specs.declared.board.Board.{Board}
-use Rattle.cw_board.specs.Asked.{noted_since, version_note, HasMoved, HasNoted, HasRead, IsAnswered, IsNotedBetween, IsOnePass, ToldBy}
+use Rattle.cw_board.specs.Asked.{noted_since, version_note, HasNoted, HasRead, IsAnswered, IsNotedBetween, IsOnePass}
 use Rattle.cw_board.specs.Boards.{cells_in, columns_of}
-use Rattle.cw_board.specs.Victims.{begin_of, outermost_first, IsBarrier, IsBarrierAmong, IsRefusedBy, IsSearched, IsVictim}
-use Rattle.cw_board.proofs.Reading.{noted_read, notes_read, since_grown, since_is, since_more}
+use Rattle.cw_board.specs.Turns.{HasWaited}
+use Rattle.cw_board.specs.Victims.{begin_of, IsBarrier, IsBarrierAmong, IsSearched}
+use Rattle.cw_board.proofs.Reading.{noted_read, notes_read, since_grown, since_more}
 
 -- the version, then words, then the version again
 module _ (cells m n : ℕ) (t t' u u' : StrandToken) (first : (view_of t').notes ≡ version_note cells m ∷ (view_of t).notes) (h : HasRead t' u) (second : (view_of u').notes ≡ version_note cells n ∷ (view_of u).notes) where
-  pub between_versions : IsNotedBetween cells m n (noted_since t' u) (view_of t).notes (view_of u').notes
+  between_versions : IsNotedBetween cells m n (noted_since t' u) (view_of t).notes (view_of u').notes
   between_versions = second ∙ ap (λ ns. version_note cells n ∷ ns) (since_grown t' u (noted_read t' u h) ∙ ap (λ ns. noted_since t' u ++ ns) first)
 
   pub one_pass : m % 2 ≡ 0 → m ≡ n → IsOnePass cells (noted_since t' u) (view_of t).notes (view_of u').notes
   one_pass even same = record { version = n; even = subst (λ k. k % 2 ≡ 0) same even; noted = subst (λ k. IsNotedBetween cells k n (noted_since t' u) (view_of t).notes (view_of u').notes) same between_versions }
-
-  pub has_moved : (x : Moved) → x.before ≡ m → x.after ≡ n → (m % 2 ≡ 1) ⊎ (m ≡ n → ⊥) → HasMoved cells (view_of t).notes (view_of u').notes x
-  has_moved x before after moved = record {
-    heard = noted_since t' u;
-    noted = between_versions ∙ (λ i. version_note cells (sym after i) ∷ (noted_since t' u ++ version_note cells (sym before i) ∷ (view_of t).notes));
-    moved = subst (λ k. (k % 2 ≡ 1) ⊎ (k ≡ x.after → ⊥)) (sym before) (subst (λ k. (m % 2 ≡ 1) ⊎ (m ≡ k → ⊥)) (sym after) moved);
-  }
 
 -- ## Older notes
 
@@ -112,8 +101,14 @@ module _ (b : Board) (last : Mark) (block : ℕ) (victim : Option Above) where
 pub noted_not : (t : StrandToken) → HasNoted t t
 noted_not t = ([], refl)
 
-pub noted_taken : (key : Key) (aim : Aim) (n : ℕ) (s t u : StrandToken) → HasNoted s t → TakesIt key aim n t.seat.me u.seat.me → HasNoted s u
-noted_taken key aim n s t u h takes = (h.0, ap (λ m. m.0.notes) takes.after ∙ h.1)
-
 pub noted_left : (word : ℕ) (s t u : StrandToken) → HasNoted s t → LeavesIt word t.seat.me u.seat.me → HasNoted s u
 noted_left word s t u h leaves = (record { word = word; value = leaves.0 } ∷ h.0, ap (λ m. m.0.notes) leaves.2 ∙ ap (λ ns. record { word = word; value = leaves.0 } ∷ ns) h.1)
+
+pub waits_more : (word : ℕ) (s t u : StrandToken) → HasWaited s t → LeavesIt word t.seat.me u.seat.me → u.track ≡ t.track → u.stop ≡ t.stop → token_of u ≡ token_of t → HasWaited s u
+waits_more word s t u h leaves track stop token = record {
+  notes = record { word = word; value = leaves.0 } ∷ h.notes;
+  me = leaves.2 ∙ ap (λ m. (noted_view word leaves.0 m.0, m.1)) h.me;
+  track = track ∙ h.track;
+  stop = stop ∙ h.stop;
+  token = token ∙ h.token;
+}

@@ -1,5 +1,5 @@
 -- Serves `HasRead` and `ToldBy`: a token that reads words.
-use Rattle.std.proofs.Common.{◌≡◌, ◌∙◌, ℕ, ◌-◌, ◌≤◌, List, [], ◌∷◌, ◌++◌, length, length-append, take, ap, refl, sym, subst, arith, append_assoc}
+use Rattle.std.proofs.Common.{◌≡◌, ◌∙◌, ℕ, ◌-◌, List, [], ◌∷◌, ◌++◌, length, length-append, take, ap, refl, sym, subst, arith, append_assoc}
 use Rattle.std.specs.Prelude.{◌&&◌, nat_lt, Bool, Option, Some, None}
 use Rattle.std.specs.Borrow.{MutBor}
 use Rattle.std.proofs.lemmas.List.{take_at}

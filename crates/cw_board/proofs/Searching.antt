@@ -1,6 +1,6 @@
 -- Serves `IsVictim`: a search for the first block that is not above an access.
-use Rattle.std.proofs.Common.{◌≡◌, ◌∙◌, ℕ, zero, suc, ◌+◌, ◌≤◌, List, [], ◌∷◌, ◌++◌, length, take, ap, refl, reverse, sym, subst, arith, append_assoc, Bool, true, false}
-use Rattle.std.specs.Prelude.{All, Contains, slice_get, Option, Some, unwrap_or}
+use Rattle.std.proofs.Common.{◌≡◌, ◌∙◌, ℕ, zero, suc, ◌+◌, ◌≤◌, List, [], ◌∷◌, ◌++◌, length, take, ap, reverse, sym, subst, append_assoc, true, false}
+use Rattle.std.specs.Prelude.{All, Contains, slice_get, Some, unwrap_or}
 use Rattle.std.proofs.lemmas.List.{reverse-reverse, take_all, take_more}
 use Rattle.std.proofs.lemmas.List.Elements.{All-append, All-cons, All-nil, All-weaker, Contains-get_or}
 use Rattle.std.proofs.lemmas.Option.{get_or_from_slice_get, slice_get_within}
@@ -11,7 +11,6 @@ use Rattle.cw_trace.proofs.Query.Agreeing.{covers_later}
 use Rattle.cw_log.specs.declared.log.Above.{Above}
 use Rattle.cw_log.specs.declared.token.Token.{Token}
 use Rattle.cw_steps.specs.declared.table.StrandToken.{StrandToken}
-use Rattle.cw_steps.specs.declared.view.WordNote.{WordNote}
 use Rattle.cw_steps.specs.Stands.{token_of}
 use Rattle.cw_steps.specs.Tracks.{begins, track_of}
 use Rattle.cw_steps.specs.Views.{view_of}

@@ -22,7 +22,7 @@ use Rattle.cw_steps.specs.declared.view.View.{View}
 use Rattle.cw_steps.specs.Homes.{ComesHome, IsAsShown}
 use Rattle.cw_steps.specs.Places.{places_of_column, word_of_place}
 use Rattle.cw_steps.specs.Stands.{token_of}
-use Rattle.cw_steps.specs.Words.{row_of, AreSameRows, HasStored, IsStored, IsUntouched}
+use Rattle.cw_steps.specs.Words.{row_of, AreSameRows, HasStored, IsUntouched}
 use Rattle.cw_steps.specs.Views.{cells_of, even_view, held_by, key_of, newest_aim, newest_change, newest_slot, newest_tier, newest_used, odd_view, older, stored_row, view_of, with_change, CanChange, CanMakeEven, CanStoreRow, IsTierOf, IsTokenOf, IsUnderWay}
 use Rattle.cw_board.specs.declared.board.Board.{Board}
 use Rattle.cw_board.specs.Boards.{cells_in, columns_of}

@@ -17,7 +17,7 @@ use Rattle.cw_trace.specs.Touched.{TouchedAreListed}
 use Rattle.cw_trace.specs.Traces.{Traces}
 use Rattle.cw_steps.specs.Homes.{IsAsItLay}
 use Rattle.cw_steps.specs.Views.{drew_view, gave_view, held_by, key_of, newest_aim, newest_cell, newest_slot, newest_used, older, view_of, with_change, CanFork, IsTierOf, IsTokenOf, TakesIt}
-use Rattle.cw_board.specs.Boards.{cells_in, columns_of, IsOf}
+use Rattle.cw_board.specs.Boards.{columns_of, IsOf}
 use Rattle.cw_log.specs.declared.board.Forked.{Forked}
 use Rattle.cw_log.specs.declared.board.Forked.TheVariants.{Two, Inline}
 use Rattle.cw_board.specs.declared.board.Board.{Board}
@@ -81,7 +81,8 @@ IsOfTier (home.Early before used) = Unit {0}
 
 -- ## Changes of the tier
 
--- A fork, a split or a merge made `come` of the tier that lay there.
+-- A call made `come` of the tier that lay there: the labels go in the order of the marks, and each column whose row it changed is
+-- listed.
 pub record IsChanged (lay come : Traces) : Type 0 where
   pub labels : AreLabels come.columns come.labels
   pub touched : TouchedAreListed lay come

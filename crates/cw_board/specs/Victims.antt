@@ -15,7 +15,6 @@ use Rattle.cw_steps.specs.declared.table.StrandToken.{StrandToken}
 use Rattle.cw_steps.specs.declared.view.WordNote.{WordNote}
 use Rattle.cw_steps.specs.Stands.{token_of}
 use Rattle.cw_steps.specs.Tracks.{track_of}
-use Rattle.cw_steps.specs.Views.{view_of}
 use Rattle.cw_board.specs.declared.board.Board.{Board}
 use Rattle.cw_board.specs.declared.victims.Barrier.{Barrier}
 use Rattle.cw_board.specs.Asked.{noted_since, IsAnswered, IsOnePass, ToldBy}

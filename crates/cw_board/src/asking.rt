@@ -2,7 +2,6 @@
 //! only if the version was even and the same both times.
 ghost use Rattle.std.specs.Prelude.{◌≡◌, ◌+◌, ◌≤◌, ◌%◌, ◌⊎◌, ◌&&◌, ◌∷◌, ℕ, nat_lt, IfOk, IfErr, OnOk, Some, true, false};
 ghost use Rattle.cw_trace.specs.Query.{Covers, Gives};
-ghost use Rattle.cw_trace.specs.Told.{Stays};
 ghost use Rattle.cw_xconf.specs.Costs.{looks_for, most_looks};
 ghost use Rattle.cw_steps.specs.declared.places.Place.{Place};
 ghost use Rattle.cw_steps.specs.Places.{IsThere};
@@ -10,7 +9,7 @@ ghost use Rattle.cw_steps.specs.Stands.{token_of};
 ghost use Rattle.cw_steps.specs.Tracks.{track_of};
 ghost use Rattle.cw_steps.specs.Views.{view_of, IsTokenOf};
 ghost use Rattle.cw_board.specs.Boards.{cells_in, columns_of, IsOf};
-ghost use Rattle.cw_board.specs.Asked.{low_half, noted_since, word_number, version_note, HasMoved, HasNoted, HasRead, HeardFor, IsAnswered, ReadsFor, ToldBy, ToldFor};
+ghost use Rattle.cw_board.specs.Asked.{low_half, noted_since, word_number, version_note, HasMoved, HasRead, HeardFor, IsAnswered, ReadsFor, ToldBy, ToldFor};
 
 use crate::Board;
 use cw_order::Steps;

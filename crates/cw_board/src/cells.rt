@@ -47,8 +47,8 @@ impl Board {
         ensures held { IsHolding self.now cell slot.Empty token.old token.new }
         ensures low { IsLowCell (view_of token.new).seen (slot.Cell result) }
         ensures cell { HasCell aim result token.new }
-        ensures quiet { IsQuiet (view_of token.new) }
         ensures noted { HasNoted token.old token.new }
+        ensures quiet { IsQuiet (view_of token.new) }
         ensures word { (track_of token.new.track).word ≡ (track_of token.old.track).word }
     {
         self.take_turn(rt, token, cell, aim);

@@ -236,17 +236,17 @@ fn threads_count(rt: HostRuntime) -> Result<(), Fail> {
 }
 
 /// How often each of two threads splits a fork and merges it.
-const CHANGES: u32 = 500;
+const CHANGES: u32 = 200;
 
 /// How often each of two other threads asks.
-const QUESTIONS: u32 = 50_000;
+const QUESTIONS: u32 = 5_000;
 
 /// The limits of a board with two columns for each fork.
 const WIDE: Limits = Limits {
     fuel: 0,
     size: 0,
     aborts: 9,
-    strands: 2_100,
+    strands: 900,
     moves: 0,
 };
 
@@ -334,7 +334,8 @@ fn writes<N: BoardName, R: Wait>(
     Ok(led)
 }
 
-/// Joins both strands, the left one after its block was committed. Returns whether an answer was wrong.
+/// Asks once more, now that nothing changes. Then joins both strands, the left one after its block was committed. Returns whether an
+/// answer was wrong.
 fn ends<N: BoardName, R: Wait>(
     rt: &R,
     scene: &Scene<N>,
@@ -343,6 +344,8 @@ fn ends<N: BoardName, R: Wait>(
 ) -> Result<(Strand<N>, bool), OutOfMemory> {
     match (left, right) {
         (Ok(left), Ok((right, wrong))) => {
+            let (right, answer) = scene.ask(right, LAST);
+            let wrong = wrong || answer.is_err() || is_wrong(answer);
             let left = scene.commit(left);
             let led = meets(rt, scene, left, Ok(right))?;
             Ok((led, wrong))

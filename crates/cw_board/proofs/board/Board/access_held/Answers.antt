@@ -1,4 +1,4 @@
-use Rattle.std.specs.Prelude.{IfOk, IfSome}
+use Rattle.std.specs.Prelude.{IfSome}
 use Rattle.std.proofs.Common.{◌≡◌, ◌∙◌, subst}
 use Rattle.cw_tree.specs.AccessStacks.{stamps}
 use Rattle.cw_tree.specs.Newest.{last_eight}

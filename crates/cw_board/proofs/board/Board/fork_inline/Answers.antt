@@ -1,7 +1,6 @@
-use Rattle.std.proofs.Common.{ℕ, ◌≡◌, ◌∙◌, Bool, ap, refl, sym, subst, arith, eq-eqb}
-use Rattle.std.specs.Prelude.{if◌then◌else◌}
+use Rattle.std.proofs.Common.{ℕ, ◌∙◌, refl, sym, subst, arith}
 use Rattle.cw_steps.specs.declared.view.View.{View}
-use Rattle.cw_steps.specs.Views.{columns_for, key_of, newest_used, view_of, CanFork}
+use Rattle.cw_steps.specs.Views.{columns_for, key_of, view_of, CanFork}
 use Rattle.cw_board.proofs.Forking.{can_fork_inline, inline_is, tier_same}
 use Rattle.cw_board.proofs.board.Board.fork_inline.Goals as goal
 

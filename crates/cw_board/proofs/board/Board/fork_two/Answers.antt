@@ -3,13 +3,11 @@ use Rattle.std.specs.Prelude.{◌==◌, if◌then◌else◌, Some}
 use Rattle.std.proofs.lemmas.Bool.{ne_eqb}
 use Rattle.cw_log.specs.Tokens.{forked, right_of}
 use Rattle.cw_steps.specs.declared.track.Ahead.{Ahead}
-use Rattle.cw_steps.specs.declared.view.Slot.TheVariants as slot
 use Rattle.cw_steps.specs.declared.view.View.{View}
 use Rattle.cw_steps.specs.Stands.{token_of}
 use Rattle.cw_steps.specs.Tracks.{CanPart, IsReady}
-use Rattle.cw_steps.specs.Views.{columns_for, view_of, IsTierOf}
-use Rattle.cw_board.specs.Boards.{cells_in, columns_of}
-use Rattle.cw_board.specs.Turns.{HasShown}
+use Rattle.cw_steps.specs.Views.{columns_for, view_of}
+use Rattle.cw_board.specs.Boards.{cells_in}
 use Rattle.cw_board.proofs.Forking.{ahead_now, can_fork_shown, left_forks, left_is, right_forks, right_is, tier_more}
 use Rattle.cw_board.proofs.Showing.{shown_change, shown_holds, shown_used}
 use Rattle.cw_board.proofs.board.Board.fork_two.Goals as goal

@@ -1,4 +1,4 @@
-use Rattle.std.proofs.Common.{ℕ, ◌<◌, List, get_or, length, refl, sym, subst, ap, arith}
+use Rattle.std.proofs.Common.{ℕ, List, get_or, length, refl, sym, ap, arith}
 use Rattle.cw_steps.proofs.Walked.{had_at}
 use Rattle.cw_board.proofs.Showing.{can_change, can_make_even, can_store, has_shown, shows_more, shows_none}
 use Rattle.cw_board.proofs.board.Board.show_tier.Goals as goal
