@@ -25,3 +25,4 @@ pub use places::Place;
 pub use table::{Shared, StrandToken};
 pub use track::{Ahead, Stood, Track};
 pub use view::{Coming, Found, Key, Logged, Placed, Slot, Turn, View, Whereabouts, WordNote};
+pub use written::{Touch, Touches};
