@@ -17,11 +17,18 @@ use Rattle.cw_steps.specs.Stands.{token_of}
 use Rattle.cw_steps.proofs.Leaving.Journals.{looks_more, looks_not}
 use Rattle.cw_board.specs.declared.board.Board.{Board}
 use Rattle.cw_board.specs.Boards.{cells_in}
-use Rattle.cw_board.specs.Cancelled.{back_at, has_written, ArePutBack, HasLookedAt, IsListed, Look}
+use Rattle.cw_board.specs.Cancelled.{back_at, has_written, value_before, ArePutBack, HasLookedAt, IsPutBack, Look}
 
 -- what is put back in the cell of one look, if anything is
 abbrev pub back_of : Token → Look → Option Back
 back_of x l = if has_written x l then Some (back_at x l) else None
+
+-- what is put back there, once it is known whether it was written
+pub back_there : (x : Token) (l : Look) (value : ℤ) → has_written x l ≡ true → value ≡ value_before x l.cell l.lay → Some (record { cell = l.cell; value = value }) ≡ back_of x l
+back_there x l value e q = ap (λ (v : ℤ). Some (record { cell = l.cell; value = v })) q ∙ ap (λ (b : Bool). if b then Some (back_at x l) else None) (sym e)
+
+pub back_not : (x : Token) (l : Look) → has_written x l ≡ false → None ≡ back_of x l
+back_not x l e = ap (λ (b : Bool). if b then Some (back_at x l) else None) (sym e)
 
 -- what a look of a later token found was found since this one
 pub looked_since : (b : Board) (t u : StrandToken) (l : Look) → HasReturned t.seat.me u.seat.me → HasLookedAt b u l → HasLookedAt b t l
@@ -94,7 +101,7 @@ module _ (b : Board) (t : StrandToken) (cells : List ℕ) (back : List Back) (w 
           omega (arith, there.0, ap (λ cs. get_or cs k 0) e, get_or-map f ls k d 0 within)
 
 -- what a later token found that stands for the same was found since this one
-pub listed_before : (b : Board) (t u : StrandToken) (back : List Back) → u.seat ≡ t.seat → token_of u ≡ token_of t → IsListed b u back → IsListed b t back
+pub listed_before : (b : Board) (t u : StrandToken) (back : List Back) → u.seat ≡ t.seat → token_of u ≡ token_of t → IsPutBack b u back → IsPutBack b t back
 listed_before b t u back seat same h = record {
   cells = h.cells;
   written = subst (λ (x : Token). AreWrittenBeneath x (cells_in b) h.cells) same h.written;

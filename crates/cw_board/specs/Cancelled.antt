@@ -46,7 +46,7 @@ pub record ArePutBack (b : Board) (t : StrandToken) (at : List ℕ) (back : List
   pub list : back ≡ map (back_at (token_of t)) (filter (has_written (token_of t)) looks)
 
 -- That is so of all cells of the board that the logs say were written beneath the token's place, by rising number.
-pub record IsListed (b : Board) (t : StrandToken) (back : List Back) : Type 0 where
+pub record IsPutBack (b : Board) (t : StrandToken) (back : List Back) : Type 0 where
   pub cells : List ℕ
   pub written : AreWrittenBeneath (token_of t) (cells_in b) cells
   pub put_back : ArePutBack b t cells back

@@ -3,24 +3,26 @@
 ghost use Rattle.std.specs.Prelude.{◌≡◌, ◌<◌, ◌≤◌, ◌+◌, ◌++◌, ℕ, ℤ, [], take, All, Contains, filter, if◌then◌else◌, length, map, nat_lt, vec_capacity, vec_len, IfOk, None, OnErr, Some};
 ghost use Rattle.std.specs.List.Sorted.{IsStrictlyIncreasing};
 ghost use Rattle.std.specs.Option.{option_to_list};
+ghost use Rattle.cw_code.specs.declared.Back.{Back};
 ghost use Rattle.cw_tree.specs.Accesses.{cell_value};
 ghost use Rattle.cw_tree.specs.AccessStacks.{stamps, written_by};
 ghost use Rattle.cw_tree.specs.declared.node.Kind.TheVariants as kind;
 ghost use Rattle.cw_stack.specs.Cells.{AreSteps, CellParts};
 ghost use Rattle.cw_log.specs.Answers.{Cancels};
+ghost use Rattle.cw_log.specs.declared.token.Token.{Token};
 ghost use Rattle.cw_log.specs.Tokens.{made, GoesFree, HasBlock};
-ghost use Rattle.cw_steps.specs.Beneath.{AreWrittenBeneath};
+ghost use Rattle.cw_steps.specs.Beneath.{AreTouches, AreWrittenBeneath};
 ghost use Rattle.cw_steps.specs.Leaving.{HasReturned};
 ghost use Rattle.cw_steps.specs.Stands.{token_of};
 ghost use Rattle.cw_steps.specs.Tracks.{track_of, IsReady};
 ghost use Rattle.cw_board.specs.Boards.{budget_of, cells_in, IsOf};
-ghost use Rattle.cw_board.specs.Cancelled.{back_at, has_written, value_before, ArePutBack, HasLookedAt, IsListed};
+ghost use Rattle.cw_board.specs.Cancelled.{back_at, has_written, value_before, ArePutBack, HasLookedAt, IsPutBack};
 
 use crate::Board;
 use cw_base::{OutOfMemory, Seq, put};
 use cw_code::Back;
 use cw_stack::Cell;
-use cw_steps::{Aim, Draw, StrandToken};
+use cw_steps::{Aim, Draw, StrandToken, Touches};
 use cw_tree::Entry;
 use std::sync::Wait;
 
@@ -47,23 +49,23 @@ fn old_at(entries: &[Entry], stamp: u64) -> i64
     entries[place_of(entries, stamp)].old
 }
 
-/// Returns the cell's value from before the first entry that is an access beneath the token's place.
-fn value_before(token: &StrandToken, number: u32, cell: &Cell) -> i64
-    ensures { result ≡ value_before (token_of token.now) number cell.now }
+/// Returns the cell's value from before the first entry that is one of these accesses.
+fn value_before(touches: &Touches, number: u32, cell: &Cell) -> i64
+    ensures { (x : Token) → AreTouches x touches.now.list.items → result ≡ value_before x number cell.now }
 {
     let entries = cell.journal();
-    match token.first_entry(number, entries) {
+    match touches.first_entry(number, entries) {
         Some(first) => old_at(entries, first),
         None => cell.value(),
     }
 }
 
-/// Returns what is put back in a cell, if that was written beneath the token's place.
-fn back_in(token: &StrandToken, number: u32, cell: &Cell) -> Option<Back>
-    ensures { result ≡ (if has_written (token_of token.now) (record { cell = number; lay = cell.now }) then Some (back_at (token_of token.now) (record { cell = number; lay = cell.now })) else None) }
+/// Returns what is put back in a cell, if one of these accesses wrote there.
+fn back_in(touches: &Touches, number: u32, cell: &Cell) -> Option<Back>
+    ensures { (x : Token) → AreTouches x touches.now.list.items → result ≡ (if has_written x (record { cell = number; lay = cell.now }) then Some (back_at x (record { cell = number; lay = cell.now })) else None) }
 {
-    if token.has_written(number, cell.journal()) {
-        let value = value_before(token, number, cell);
+    if touches.has_written(number, cell.journal()) {
+        let value = value_before(touches, number, cell);
         Some(Back {
             cell: number,
             value,
@@ -106,23 +108,25 @@ fn copy(list: &mut Vec<Back>, from: &[Back])
 
 impl Board {
     /// Gives up the block in the token's place. Returns what is put back: the cells that were written beneath it, by rising number, each
-    /// with its value from before the block came to it. If memory runs out, no lock was acquired and the block is pending as before.
+    /// with its value from before the block came to it. Without memory it makes no step: no lock is acquired, no number is drawn, and
+    /// the block is pending as before.
     pub fn cancel<R: Wait>(&self, rt: &R, token: &mut StrandToken) -> Result<Seq<Back>, OutOfMemory>
         requires of { IsOf self.now token.old }
         requires goes { GoesFree (budget_of self.now) (token_of token.old) }
         requires block { HasBlock (token_of token.old) }
         ensures of { IsOf self.now token.new }
         ensures ok { IfOk result (λ back. Cancels (cells_in self.now) (token_of token.old) (token_of token.new) back) }
-        ensures listed { IfOk result (λ back. IsListed self.now token.old back) }
+        ensures listed { IfOk result (λ back. IsPutBack self.now token.old back) }
         ensures err { OnErr result (token_of token.new ≡ token_of token.old) }
-        ensures unlocked { OnErr result (token.new.seat ≡ token.old.seat) }
+        ensures unmoved { OnErr result ((token.new.seat ≡ token.old.seat) × (track_of token.new.track ≡ track_of token.old.track)) }
         ensures word { (track_of token.new.track).word ≡ (track_of token.old.track).word }
     {
-        let cells = token.written_cells(self.shared.cells())?;
+        let touches = token.touches()?;
+        let cells = touches.written_cells(self.shared.cells())?;
         let kept = with_room(&cells)?;
         let told = with_room(&cells)?;
         token.reserve(1)?;
-        Ok(self.give_up(rt, token, cells.as_slice(), kept, told))
+        Ok(self.give_up(rt, token, &touches, cells.as_slice(), kept, told))
     }
 
     /// Looks at the cells, and adds the cancel to the token's log. Takes no memory.
@@ -130,23 +134,26 @@ impl Board {
         &self,
         rt: &R,
         token: &mut StrandToken,
+        touches: &Touches,
         cells: &[u32],
         kept: Vec<Back>,
         told: Vec<Back>,
     ) -> Seq<Back>
         requires of { IsOf self.now token.old }
         requires ready { IsReady token.old.track 1 }
+        requires block { HasBlock (token_of token.old) }
+        requires touches { AreTouches (token_of token.old) touches.now.list.items }
         requires cells { AreWrittenBeneath (token_of token.old) (cells_in self.now) cells.now }
         requires none { (kept.items ≡ []) × (told.items ≡ []) }
         requires room { (length cells.now ≤ vec_capacity kept) × (length cells.now ≤ vec_capacity told) }
         ensures of { IsOf self.now token.new }
         ensures cancels { Cancels (cells_in self.now) (token_of token.old) (token_of token.new) result }
-        ensures listed { IsListed self.now token.old result }
+        ensures listed { IsPutBack self.now token.old result }
         ensures word { (track_of token.new.track).word ≡ (track_of token.old.track).word }
     {
         let mut kept = kept;
         let mut told = told;
-        self.look_at(rt, token, cells, &mut told);
+        self.look_at(rt, token, touches, cells, &mut told);
         let list = told.as_slice();
         copy(&mut kept, list);
         let back = Seq::from_vec(kept);
@@ -155,8 +162,16 @@ impl Board {
     }
 
     /// Looks at cells, and lists what is put back. Takes no memory.
-    fn look_at<R: Wait>(&self, rt: &R, token: &mut StrandToken, cells: &[u32], list: &mut Vec<Back>)
+    fn look_at<R: Wait>(
+        &self,
+        rt: &R,
+        token: &mut StrandToken,
+        touches: &Touches,
+        cells: &[u32],
+        list: &mut Vec<Back>,
+    )
         requires of { IsOf self.now token.old }
+        requires touches { AreTouches (token_of token.old) touches.now.list.items }
         requires cells { All (λ c. c < cells_in self.now) cells.now }
         requires none { list.old.items ≡ [] }
         requires room { length cells.now ≤ vec_capacity list.old }
@@ -167,14 +182,21 @@ impl Board {
         ensures token { token_of token.new ≡ token_of token.old }
     {
         for cell in cells {
-            let back = self.look(rt, token, *cell);
+            let back = self.look(rt, token, touches, *cell);
             add(list, back);
         }
     }
 
     /// Looks at one cell, and returns what is put back there, if anything is.
-    fn look<R: Wait>(&self, rt: &R, token: &mut StrandToken, cell: u32) -> Option<Back>
+    fn look<R: Wait>(
+        &self,
+        rt: &R,
+        token: &mut StrandToken,
+        touches: &Touches,
+        cell: u32,
+    ) -> Option<Back>
         requires of { IsOf self.now token.old }
+        requires touches { AreTouches (token_of token.old) touches.now.list.items }
         requires cell { cell < cells_in self.now }
         ensures of { IsOf self.now token.new }
         ensures returned { HasReturned token.old.seat.me token.new.seat.me }
@@ -184,7 +206,7 @@ impl Board {
             × (result ≡ (if has_written (token_of token.old) (record { cell = cell; lay = lay }) then Some (back_at (token_of token.old) (record { cell = cell; lay = lay })) else None)) }
     {
         let held = self.hold_cell(rt, token, cell, Aim::Look);
-        let back = back_in(token, cell, &held);
+        let back = back_in(touches, cell, &held);
         self.leave_cell(token, cell, held);
         back
     }
@@ -193,6 +215,9 @@ impl Board {
     fn put_cancel(&self, token: &mut StrandToken, back: Seq<Back>)
         requires of { IsOf self.now token.old }
         requires ready { IsReady token.old.track 1 }
+        requires block { HasBlock (token_of token.old) }
+        requires there { All (λ (k : Back). k.cell < cells_in self.now) back }
+        requires rises { IsStrictlyIncreasing (map (λ (k : Back). k.cell) back) }
         ensures of { IsOf self.now token.new }
         ensures token { (stamp : ℕ) × (token_of token.new ≡ made (token_of token.old) (kind.Cancel back) stamp) }
         ensures word { (track_of token.new.track).word ≡ (track_of token.old.track).word }

@@ -1,7 +1,7 @@
 -- What is beneath a token's place, and which entries of a cell came before that.
 use Rattle.std.specs.Prelude.{ℕ, ◌==◌, ◌<◌, ◌&&◌, nat_lt, not, min, Bool, true, false, All, Contains, List, [], ◌∷◌, ◌++◌, drop, filter, map, Option, Some, None, if◌then◌else◌}
-use Rattle.std.specs.List.{flat_map, list_any, take_while}
-use Rattle.std.specs.List.Sorted.{IsStrictlyIncreasing}
+use Rattle.std.specs.List.{filter_map, flat_map, list_any, take_while}
+use Rattle.std.specs.List.Sorted.{IsNonDecreasingBy, IsPermutation, IsStrictlyIncreasing}
 use Rattle.std.specs.Option.{option_to_list}
 use Rattle.cw_tree.specs.declared.access.Entry.{Entry}
 use Rattle.cw_tree.specs.declared.node.Node.{Node}
@@ -10,6 +10,7 @@ use Rattle.cw_tree.specs.declared.node.Kind.TheVariants as kind
 use Rattle.cw_tree.specs.Walks.{has}
 use Rattle.cw_log.specs.declared.log.Log.{Log}
 use Rattle.cw_log.specs.declared.token.Token.{Token}
+use Rattle.cw_steps.specs.declared.written.Touch.{Touch}
 
 -- the cell that a node wrote, or read unless only `writes` count
 abbrev pub cell_reached : (writes : Bool) → Kind → Option ℕ
@@ -68,6 +69,29 @@ pub record AreWrittenBeneath (x : Token) (cells : ℕ) (written : List ℕ) : Ty
   pub rising : IsStrictlyIncreasing written
   pub each : All (λ (c : ℕ). (c < cells) × Contains (cells_written_beneath x) c) written
   pub all : (c : ℕ) → c < cells → Contains (cells_written_beneath x) c → Contains written c
+
+-- ## All accesses beneath the place
+
+abbrev pub touch_by : (stamp : ℕ) → Kind → Option Touch
+touch_by n (kind.Read c v) = Some (record { cell = c; stamp = n; wrote = false })
+touch_by n (kind.Write c v) = Some (record { cell = c; stamp = n; wrote = true })
+touch_by n k = None
+
+-- the access that a node is, if it is one
+abbrev pub touch_of : Node → Option Touch
+touch_of x = touch_by x.stamp x.kind
+
+abbrev pub touches_in : List Node → List Touch
+touches_in ns = filter_map touch_of ns
+
+-- the accesses of a cell among these
+abbrev pub of_cell : (cell : ℕ) → List Touch → List Touch
+of_cell c ts = filter (λ (t : Touch). t.cell == c) ts
+
+-- all accesses beneath the place, by the numbers of their cells
+pub record AreTouches (x : Token) (ts : List Touch) : Type 0 where
+  pub by_cell : IsNonDecreasingBy (λ (t : Touch). t.cell) ts
+  pub all : IsPermutation (touches_in (nodes_beneath x)) ts
 
 -- ## The least of some numbers
 

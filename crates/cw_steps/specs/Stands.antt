@@ -50,13 +50,17 @@ abbrev pub blocks_outside : List Open → ℕ
 blocks_outside [] = 0
 blocks_outside (o ∷ os) = length o.around
 
--- if the draw is an end, it ends a block that was begun in the token's strand
+-- the token is in a block that was begun in its strand
+abbrev pub HasOwnBlock : Token → Type 0
+HasOwnBlock x = tokens.HasBlock x × (blocks_outside x.forks < length x.around)
+
+-- an end is that of such a block, and a cancel gives up such a block
 abbrev pub EndsBlock : Draw → Token → Type 0
-EndsBlock (draw.End aborted) x = tokens.HasBlock x × (blocks_outside x.forks < length x.around)
+EndsBlock (draw.End aborted) x = HasOwnBlock x
 EndsBlock (draw.Access c wrote v) x = Unit {0}
 EndsBlock (draw.Fork left right gap) x = Unit {0}
 EndsBlock (draw.Out v) x = Unit {0}
-EndsBlock (draw.Cancel back) x = Unit {0}
+EndsBlock (draw.Cancel back) x = HasOwnBlock x
 EndsBlock draw.Begin x = Unit {0}
 
 -- ## What steps make of it

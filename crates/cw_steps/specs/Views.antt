@@ -1,6 +1,8 @@
 -- What a token knows, and what each step makes of that.
-use Rattle.std.specs.Prelude.{◌≡◌, ℕ, ℤ, zero, suc, ◌+◌, ◌-◌, ◌*◌, ◌^◌, ◌<◌, ◌≤◌, ◌==◌, ◌||◌, nat_lt, Bool, true, false, All, List, [], ◌∷◌, ◌++◌, length, max, drop, Option, Some, None, IsSomeAnd, if◌then◌else◌}
+use Rattle.std.specs.Prelude.{◌≡◌, ℕ, ℤ, zero, suc, ◌+◌, ◌-◌, ◌*◌, ◌^◌, ◌<◌, ◌≤◌, ◌==◌, ◌||◌, nat_lt, Bool, true, false, All, List, [], ◌∷◌, ◌++◌, length, map, max, drop, Option, Some, None, IsSomeAnd, if◌then◌else◌}
+use Rattle.std.specs.List.Sorted.{IsStrictlyIncreasing}
 use Rattle.atomic_table.specs.Table.{Me, Step, rest}
+use Rattle.cw_code.specs.declared.Back.{Back}
 use Rattle.cw_tree.specs.declared.access.Entry.{Entry}
 use Rattle.cw_tree.specs.declared.access.Mark.{Mark}
 use Rattle.cw_tree.specs.declared.closed.Halt.{Halt}
@@ -331,11 +333,16 @@ pub record CanAccess (key : Key) (v : View) (c : ℕ) (wrote : Bool) (x : ℤ) :
   pub aim : newest_aim v.turns ≡ aims.Access
   pub read : wrote ≡ false → IsSomeAnd (newest_cell v.turns) (λ y. x ≡ entries_value y)
 
+-- A cancel lists cells of the board, by rising number.
+pub record CanCancel (key : Key) (back : List Back) : Type 0 where
+  pub there : All (λ (b : Back). b.cell < cells_of key) back
+  pub rises : IsStrictlyIncreasing (map (λ (b : Back). b.cell) back)
+
 abbrev pub CanDraw : Key → View → Draw → Type 0
 CanDraw key v (draw.Fork left right gap) = CanFork key v left right gap
 CanDraw key v (draw.Access c wrote x) = CanAccess key v c wrote x
 CanDraw key v (draw.Out x) = Unit {0}
-CanDraw key v (draw.Cancel back) = Unit {0}
+CanDraw key v (draw.Cancel back) = CanCancel key back
 CanDraw key v draw.Begin = Unit {0}
 CanDraw key v (draw.End aborted) = Unit {0}
 

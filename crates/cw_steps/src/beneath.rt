@@ -23,7 +23,7 @@ fn cell_of(node: &Node, writes: bool) -> Option<u32>
 }
 
 /// Returns whether one of the entries, whose stamps rise, has this stamp.
-fn has_stamp(entries: &[Entry], stamp: u64) -> bool
+pub(crate) fn has_stamp(entries: &[Entry], stamp: u64) -> bool
     requires { IsStrictlyIncreasing (stamps entries.now) }
     ensures { result ≡ has (stamps entries.now) stamp }
 {
@@ -33,7 +33,7 @@ fn has_stamp(entries: &[Entry], stamp: u64) -> bool
 }
 
 /// Returns the nodes from `place` on.
-fn since(nodes: &[Node], place: u32) -> &[Node]
+pub(crate) fn since(nodes: &[Node], place: u32) -> &[Node]
     ensures { result.now ≡ drop place nodes.now }
 {
     let place = place as usize;
@@ -45,7 +45,7 @@ fn since(nodes: &[Node], place: u32) -> &[Node]
 }
 
 /// Returns whether a log lies beneath the track's place: a log before it in the track does, or it hangs from a fork there.
-fn lies_beneath(before: bool, track: &Track, log: &Log) -> bool
+pub(crate) fn lies_beneath(before: bool, track: &Track, log: &Log) -> bool
     ensures { result ≡ (before || ((log.now.from == track.now.first) && nat_lt track.now.place log.now.fork)) }
 {
     before || (log.from == track.first && log.fork > track.place)

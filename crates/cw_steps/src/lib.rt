@@ -28,3 +28,4 @@ pub use track::{Ahead, Stood, Track};
 pub use view::{
     Change, Coming, Found, Key, Logged, Placed, Slot, Turn, View, Whereabouts, WordNote,
 };
+pub use written::{Touch, Touches};

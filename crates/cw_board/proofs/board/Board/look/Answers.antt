@@ -1,10 +1,9 @@
-use Rattle.std.proofs.Common.{◌∙◌, ap}
-use Rattle.cw_log.specs.declared.token.Token.{Token}
+use Rattle.std.proofs.Common.{◌∙◌}
 use Rattle.cw_steps.specs.declared.draw.Aim.TheVariants as aims
 use Rattle.cw_steps.specs.declared.draw.Home.TheVariants as home
+use Rattle.cw_steps.specs.Stands.{token_of}
 use Rattle.cw_steps.proofs.Leaving.Journals.{looks_not}
 use Rattle.cw_board.proofs.Holding.{cell_comes}
-use Rattle.cw_board.proofs.PutBack.{back_of}
 use Rattle.cw_board.proofs.Rolls.{gives_back}
 use Rattle.cw_board.proofs.board.Board.look.Goals as goal
 
@@ -27,5 +26,5 @@ returns-clause-found g c =
     let e = c.hold_cell-held.ensures in (
       c.hold_cell-held.result,
       record { before = c.args.token.now; during = c.hold_cell-held.new.token; returned = looks_not c.args.token.now.seat.me; holding = e.held; found = e.cell },
-      c.back_in-back.ensures ∙ ap (λ (x : Token). back_of x (record { cell = c.args.cell; lay = c.hold_cell-held.result })) e.held.token,
+      c.back_in-back.ensures (token_of c.args.token.now) c.requires.touches,
     )

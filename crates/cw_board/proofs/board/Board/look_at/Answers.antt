@@ -3,6 +3,7 @@ use Rattle.std.specs.Option.{option_to_list}
 use Rattle.std.proofs.lemmas.List.{take_more}
 use Rattle.cw_code.specs.declared.Back.{Back}
 use Rattle.cw_log.specs.declared.token.Token.{Token}
+use Rattle.cw_steps.specs.Beneath.{AreTouches}
 use Rattle.cw_steps.specs.Stands.{token_of}
 use Rattle.cw_steps.proofs.Leaving.Journals.{looks_more, looks_not}
 use Rattle.cw_board.specs.Cancelled.{ArePutBack, Look}
@@ -19,6 +20,9 @@ loop-cell-init g c = record {
   few = omega (arith, ap (λ xs. length xs) c.requires.none);
   room = omega arith;
 }
+
+pub look-back-requires-clause-touches : goal.look-back-requires-clause-touches
+look-back-requires-clause-touches g c = subst (λ (x : Token). AreTouches x c.args.touches.now.list.items) (sym c.loop-cell.invariant.token) c.requires.touches
 
 pub loop-cell-preserved : goal.loop-cell-preserved
 loop-cell-preserved g c =
