@@ -28,7 +28,7 @@ pub struct Moved {
     pub after: u64,
 }
 
-/// Whether a pass between loads of these versions counts.
+/// Returns `Moved` unless both loads found the same even version.
 pub(crate) fn settled(before: u64, after: u64) -> Result<(), Moved>
     ensures ok { OnOk result ((before % 2 ≡ 0) × (before ≡ after)) }
     ensures moved { IfErr result (λ m. (m.before ≡ before) × (m.after ≡ after) × ((before % 2 ≡ 1) ⊎ (before ≡ after → ⊥))) }
@@ -58,7 +58,7 @@ fn number_of(word: u64) -> Option<u32>
     }
 }
 
-/// Whether the label `inner` stands between the two others.
+/// Returns whether `inner` is above `opening` and below `closing`.
 fn stands_between<L: Ledger>(
     opening: u64,
     inner: u64,
@@ -89,7 +89,7 @@ fn is_there(columns: u32, at: Place) -> bool
     }
 }
 
-/// What a pass is about. Each one picks it.
+/// The question that a pass answers. Each pass picks it.
 pub(crate) trait Asking {
     ghost use Rattle.std.specs.Prelude.{Option};
     ghost use Rattle.cw_board.specs.Asked.{Question};
@@ -301,6 +301,7 @@ impl Board {
     ) -> Result<Verdict, Moved>
         requires of { IsOf self.now token.old }
         ensures of { IsOf self.now token.new }
+        ensures read { HasRead token.old token.new }
         ensures token { token_of token.new ≡ token_of token.old }
         ensures word { (track_of token.new.track).word ≡ (track_of token.old.track).word }
         ensures answered { IfOk result (IsAnswered (cells_in self.now) (columns_of self.now) last (track_of token.old.track).column (view_of token.old).notes (view_of token.new).notes) }

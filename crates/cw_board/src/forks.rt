@@ -50,7 +50,7 @@ fn split_tier(tier: &mut Tier, fork: u32) -> Result<(), Early>
 }
 
 /// Merges the fork in the tier and returns true, if it is there and split. Otherwise nothing changes. No rule of the table says yet
-/// that it is.
+/// that the fork is there and split.
 fn merge_tier(tier: &mut Tier, fork: u32) -> bool
     ensures used { columns.used tier.new.columns ≡ columns.used tier.old.columns }
     ensures room { tier.new.columns.room ≡ tier.old.columns.room }

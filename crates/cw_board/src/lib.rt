@@ -3,7 +3,7 @@
 //! Contracts cite `specs/Tokens.antt` of `cw_log`: what a token stands for, how each call changes that, and what each call
 //! requires. Here they cite `specs/Boards.antt` (what a token of a board is, and what journals are), `specs/Sound.antt` (what is
 //! true of a token between two calls), `specs/Turns.antt` (what it knows while it has a turn), `specs/Asked.antt` (questions and
-//! their answers) and `specs/Victims.antt` (what a refused access tells).
+//! their answers), `specs/Victims.antt` (what a refused access tells) and `specs/Cancelled.antt` (what a cancel puts back).
 #![tactic(auto)]
 
 mod access;

@@ -16,7 +16,8 @@ pub record PendingBegin : Type 0 where
   pub at : StrandState
   pub forks : ℕ
 
--- A strand of a program: its stage, its state, and the begins of the pending blocks around it, innermost first.
+-- A strand of a program: its stage, its state at its next want, to which it may still be on its way, and the begins of the pending
+-- blocks around it, innermost first.
 pub record InBlocks : Type 0 where
   pub program : Program
   pub stage : Stage
@@ -27,7 +28,7 @@ pub record InBlocks : Type 0 where
 abbrev pub strands_of_program : Program → Strands StrandState
 strands_of_program program = strands_of_job (bare_job program)
 
--- the want at which it stands
+-- its next want
 abbrev pub want_of : InBlocks → Want
 want_of b = (strands_of_program b.program).want b.state
 

@@ -1,9 +1,8 @@
-ghost use Rattle.std.specs.Prelude.{◌≡◌, ◌≢◌, ◌<◌, true, length, IfOk, OnOk, OnErr};
+ghost use Rattle.std.specs.Prelude.{◌≡◌, ◌≢◌, ◌<◌, true, length, IfOk, IfSome, OnOk, OnErr};
 ghost use Rattle.cw_strand.specs.declared.want.Want.TheVariants as Want;
 ghost use Rattle.cw_strand.specs.Strands.{is_over};
 ghost use Rattle.cw_job.specs.Jobs.{Job, TakesWords};
 ghost use Rattle.cw_job.specs.Room.Strands.{strands_of_job};
-ghost use Rattle.cw_job.specs.Room.Saves.{IsSavedOf};
 ghost use Rattle.cw_body.specs.declared.stage.Stage.TheVariants.{Goes, GaveUp, Lost};
 ghost use Rattle.cw_body.specs.Bodies.{AnswersAct, HasNoBlock, IsLost, answered, body_in_block, elements_of, body_behind_block, forgot, gave_up, goes_from, joined_body, left_of, right_of, want_of, went_back};
 
@@ -11,17 +10,19 @@ use crate::Stage;
 use crate::begin::Begin;
 use cw_base::{OutOfMemory, Stack};
 use cw_code::{Limits, Program};
-use cw_job::Standing;
-use cw_strand::{Given, Saved, Want};
+use cw_job::{Runner, Standing};
+use cw_strand::{Given, Want};
 use std::alloc::Global;
 use std::marker::Model;
 use std::snapshot::Snapshot;
 
-/// A strand at its want. `level` is the number of forks of which it is the right strand, counted since it began as a left strand or
-/// as main. `begins` are those of the pending blocks around it: its own, and those of the strands that it continues as a right one.
+/// A strand at its want, or on its way there: both strands of a fork begin on their way, and so does the strand that forked when
+/// they are joined. `run` brings a strand to its want. `level` is the number of forks of which it is the right strand, counted since
+/// it began as a left strand or as main. `begins` are those of the pending blocks around it: its own, and those of the strands that
+/// it continues as a right one.
 #[derive(Drop)]
 pub struct Body {
-    standing: Standing,
+    runner: Runner,
     level: u64,
     begins: Stack<Begin>,
     program: Snapshot<Program>,
@@ -54,7 +55,7 @@ impl Body {
     {
         let standing = Standing::start(alloc, program, words, limits)?;
         Ok(Body {
-            standing,
+            runner: Runner::at(standing),
             level: 0,
             begins: Stack::new(alloc),
             program: Snapshot::of(program),
@@ -62,11 +63,25 @@ impl Body {
         })
     }
 
-    /// Returns the want at which the strand stands.
-    pub fn want(&self) -> Want
-        ensures { (job : Job) → result ≡ (strands_of_job job).want self.now.state }
+    /// Runs the strand to its want, if it is not there yet. Returns the want.
+    pub fn run(&mut self, program: &Program) -> Result<Want, OutOfMemory>
+        requires goes { self.old.stage ≡ Goes }
+        requires program { program.now ≡ self.old.program }
+        ensures want { IfOk result (λ w. (job : Job) → w ≡ (strands_of_job job).want self.old.state) }
+        ensures ok { OnOk result (self.new ≡ self.old) }
+        ensures err { OnErr result (IsLost self.old self.new) }
     {
-        self.standing.want()
+        self.stage = Snapshot::of(&Stage::Lost);
+        let want = self.runner.run(program)?;
+        self.stage = Snapshot::of(&Stage::Goes);
+        Ok(want)
+    }
+
+    /// Returns the want of the strand, if it is there already.
+    pub fn want(&self) -> Option<Want>
+        ensures { IfSome result (λ w. (job : Job) → w ≡ (strands_of_job job).want self.now.state) }
+    {
+        self.runner.want()
     }
 
     /// Answers an access, an output or a cancel with `given`, and goes on to the next want.
@@ -78,36 +93,27 @@ impl Body {
         ensures err { OnErr result (IsLost self.old self.new) }
     {
         self.stage = Snapshot::of(&Stage::Lost);
-        self.standing.answer(given, program)?;
+        self.runner.answer(given, program)?;
         self.stage = Snapshot::of(&Stage::Goes);
         Ok(())
     }
 
-    /// Saves what is needed to come back to the begin that the strand wants.
-    pub fn save(&self) -> Result<Saved, OutOfMemory>
-        requires goes { self.now.stage ≡ Goes }
-        requires begin { want_of self.now ≡ Want.Begin }
-        ensures { IfOk result (λ saved. IsSavedOf self.now.program saved self.now.state) }
-    {
-        self.standing.save()
-    }
-
-    /// Enters the block whose begin the strand wants. `saved` is what `save` returned for that begin.
-    pub fn begins(&mut self, saved: Saved, program: &Program) -> Result<(), OutOfMemory>
+    /// Enters the block whose begin the strand wants, and keeps what is needed to come back to that begin.
+    pub fn begins(&mut self, program: &Program) -> Result<(), OutOfMemory>
         requires goes { self.old.stage ≡ Goes }
         requires program { program.now ≡ self.old.program }
         requires begin { want_of self.old ≡ Want.Begin }
-        requires saved { IsSavedOf program.now saved self.old.state }
         ensures ok { OnOk result ((job : Job) → job.program ≡ program.now → self.new ≡ body_in_block (strands_of_job job) self.old) }
         ensures err { OnErr result (IsLost self.old self.new) }
     {
+        self.stage = Snapshot::of(&Stage::Lost);
+        let saved = self.runner.save(program)?;
         let begin = Begin {
             saved,
             level: self.level,
-            at: Snapshot::of(&self.standing),
+            at: Snapshot::of(&self.runner),
         };
-        self.stage = Snapshot::of(&Stage::Lost);
-        self.standing.answer(Given::Nothing, program)?;
+        self.runner.answer(Given::Nothing, program)?;
         self.begins.push(begin)?;
         self.stage = Snapshot::of(&Stage::Goes);
         Ok(())
@@ -123,13 +129,14 @@ impl Body {
         ensures err { OnErr result (IsLost self.old self.new) }
     {
         self.stage = Snapshot::of(&Stage::Lost);
-        self.standing.answer(Given::Nothing, program)?;
+        self.runner.answer(Given::Nothing, program)?;
         let _ended = self.begins.pop();
         self.stage = Snapshot::of(&Stage::Goes);
         Ok(())
     }
 
-    /// Forks: returns the left strand of the fork that this strand wants, and goes on as the right one.
+    /// Forks: returns the left strand of the fork that this strand wants, and goes on as the right one. Both are on their way to
+    /// their first wants then.
     pub fn fork(&mut self, alloc: Global, program: &Program) -> Result<Body, OutOfMemory>
         requires goes { self.old.stage ≡ Goes }
         requires program { program.now ≡ self.old.program }
@@ -142,11 +149,11 @@ impl Body {
         let Some(level) = self.level.checked_add(1) else {
             return Err(OutOfMemory);
         };
-        let standing = self.standing.fork(program)?;
+        let runner = self.runner.fork(program)?;
         self.level = level;
         self.stage = Snapshot::of(&Stage::Goes);
         Ok(Body {
-            standing,
+            runner,
             level: 0,
             begins: Stack::new(alloc),
             program: Snapshot::of(program),
@@ -154,8 +161,8 @@ impl Body {
         })
     }
 
-    /// Joins a fork: this right strand, at its end, becomes the strand that forked, and goes on to its next want. `left` is at its
-    /// end, too.
+    /// Joins a fork: this right strand, at its end, becomes the strand that forked, and is on its way to that one's next want. `left`
+    /// is at its end, too. If it never ran to there, this is an error.
     pub fn join(&mut self, left: Body, program: &Program) -> Result<(), OutOfMemory>
         requires goes { self.old.stage ≡ Goes }
         requires program { program.now ≡ self.old.program }
@@ -164,9 +171,12 @@ impl Body {
         ensures ok { OnOk result ((job : Job) → job.program ≡ program.now → self.new ≡ joined_body (strands_of_job job) self.old left) }
         ensures err { OnErr result (IsLost self.old self.new) }
     {
-        let Body { standing, .. } = left;
+        let Body { runner, .. } = left;
         self.stage = Snapshot::of(&Stage::Lost);
-        self.standing.join(standing, program)?;
+        let Some(ended) = runner.standing() else {
+            return Err(OutOfMemory);
+        };
+        self.runner.join(ended, program)?;
         self.level = self.level.saturating_sub(1);
         self.stage = Snapshot::of(&Stage::Goes);
         Ok(())
@@ -200,7 +210,7 @@ impl Body {
         let Some(begin) = self.begins.pop() else {
             unreachable!()
         };
-        self.standing.back(&begin.saved);
+        self.runner.back(&begin.saved);
         self.level = begin.level;
         self.stage = Snapshot::of(&Stage::Goes);
     }

@@ -1,7 +1,7 @@
 /// Whether and how a strand goes on. Ghost state: a body has no bytes for it.
 #[derive(Clone, Copy)]
 pub enum Stage {
-    /// It goes on from its want.
+    /// It goes on from its want, or is on its way there.
     Goes,
     /// It goes no further from where it stands, but may go back.
     GaveUp,

@@ -58,7 +58,10 @@ pub(crate) fn access_cell<B: SharedBoard, J: RunName, R: Wait>(
     let Mode::Goes = now.mode else {
         return;
     };
-    let Some((cell, write)) = access_of(now.body.want()) else {
+    let Some(want) = now.body.want() else {
+        return;
+    };
+    let Some((cell, write)) = access_of(want) else {
         return;
     };
     let Ok(access) = scene.board.access(rt, &mut now.token, cell, write) else {

@@ -17,17 +17,13 @@ pub(crate) fn begin_block<B: SharedBoard, J: RunName>(
     let Mode::Goes = now.mode else {
         return;
     };
-    let Want::Begin = now.body.want() else {
+    let Some(Want::Begin) = now.body.want() else {
         return;
     };
-    let Ok(saved) = now.body.save() else {
-        return halt_out_of_memory(scene, now);
-    };
     let Ok(()) = scene.board.begin(&mut now.token) else {
-        drop(saved);
         return halt_out_of_memory(scene, now);
     };
-    match now.body.begins(saved, scene.program) {
+    match now.body.begins(scene.program) {
         Ok(()) => {}
         Err(_) => {
             scene.board.halt(&mut now.token, Halt::Memory);
@@ -44,7 +40,7 @@ pub(crate) fn end_block<B: SharedBoard, J: RunName>(
     let Mode::Goes = now.mode else {
         return;
     };
-    let Want::End = now.body.want() else {
+    let Some(Want::End) = now.body.want() else {
         return;
     };
     scene.board.commit(&mut now.token);

@@ -15,7 +15,7 @@ pub(crate) fn cancel_block<B: SharedBoard, J: RunName, R: Wait>(
     let Mode::Goes = now.mode else {
         return;
     };
-    let Want::Cancel = now.body.want() else {
+    let Some(Want::Cancel) = now.body.want() else {
         return;
     };
     let Ok(back) = scene.board.cancel(rt, &mut now.token) else {

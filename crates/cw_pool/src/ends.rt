@@ -37,7 +37,7 @@ pub(crate) fn may_end<B: SharedBoard, J: RunName>(
     ensures { IsTrue result → MayEnd mode (B.of token.now) body.now }
 {
     match mode {
-        Mode::Goes => matches!(body.want(), Want::Sync | Want::Done),
+        Mode::Goes => matches!(body.want(), Some(Want::Sync | Want::Done)),
         Mode::Dies { .. } => {
             begin_at(scene.board.nodes(token), scene.board.place(token)).is_none()
         }

@@ -15,6 +15,7 @@ use std::snapshot::Snapshot;
 use std::sync::Wait;
 
 /// Forks a strand, and goes on with its left strand. If the right strand has a token of its own, its task is returned second.
+/// Neither strand has run yet.
 pub(crate) fn fork<B: SharedBoard, J: RunName, R: Wait>(
     rt: &R,
     scene: &Scene<'_, B, J>,
@@ -25,7 +26,7 @@ pub(crate) fn fork<B: SharedBoard, J: RunName, R: Wait>(
     let Mode::Goes = now.mode else {
         return (now, None);
     };
-    let Want::Fork = now.body.want() else {
+    let Some(Want::Fork) = now.body.want() else {
         return (now, None);
     };
     let true = source.has_more() else {

@@ -16,6 +16,7 @@ mod crew;
 mod ends;
 mod forks;
 mod frames;
+mod idle;
 mod joins;
 mod last;
 mod moves;

@@ -17,6 +17,23 @@ pub(crate) fn check_stop<B: SharedBoard, J: RunName>(
     }
 }
 
+/// Runs a strand that goes on to its next want, if it is not there yet.
+pub(crate) fn run_to_want<B: SharedBoard, J: RunName>(
+    scene: &Scene<'_, B, J>,
+    now: &mut Running<B, J>,
+) {
+    let Mode::Goes = now.mode else {
+        return;
+    };
+    match now.body.run(scene.program) {
+        Ok(_) => {}
+        Err(_) => {
+            scene.board.halt(&mut now.token, Halt::Memory);
+            now.mode = Mode::Stopped;
+        }
+    }
+}
+
 /// Stops a strand that ran out of memory.
 pub(crate) fn halt_out_of_memory<B: SharedBoard, J: RunName>(
     scene: &Scene<'_, B, J>,
@@ -37,7 +54,7 @@ pub(crate) fn put_out<B: SharedBoard, J: RunName>(
     let Mode::Goes = now.mode else {
         return;
     };
-    let Want::Out(value) = now.body.want() else {
+    let Some(Want::Out(value)) = now.body.want() else {
         return;
     };
     let Ok(()) = scene.board.out(&mut now.token, value) else {
@@ -60,7 +77,7 @@ pub(crate) fn stop_at_fault<B: SharedBoard, J: RunName>(
     let Mode::Goes = now.mode else {
         return;
     };
-    let Want::Fault(kind) = now.body.want() else {
+    let Some(Want::Fault(kind)) = now.body.want() else {
         return;
     };
     scene

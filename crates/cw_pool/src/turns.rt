@@ -52,7 +52,10 @@ pub(crate) fn step<B: SharedBoard, J: RunName, G: Gate, R: Threads + Wait + Sync
     let Mode::Goes = now.mode else {
         return;
     };
-    match now.body.want() {
+    let Some(want) = now.body.want() else {
+        return;
+    };
+    match want {
         Want::Begin => {
             gate.at(rt, worker, Point::Begin);
             begin_block(scene, now);

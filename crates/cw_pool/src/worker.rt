@@ -3,13 +3,14 @@ use crate::boxes::{Boxes, Task, TaskBox, take_up};
 use crate::ends::{After, finish, may_end};
 use crate::forks::fork;
 use crate::frames::{Frame, Frames, meet};
+use crate::idle::Idle;
 use crate::joins::{join_stolen, take_back_task};
-use crate::moves::{check_stop, halt_out_of_memory};
+use crate::moves::{check_stop, halt_out_of_memory, run_to_want};
 use crate::sides::{left_number, right_number};
 use crate::splits::try_split;
 use crate::turns::{go_back, step};
 use crate::{Ended, Memo, Mode, RunName, Running, Scene};
-use crossbeam_utils::{Backoff, CachePadded};
+use crossbeam_utils::CachePadded;
 use cw_base::OutOfMemory;
 use cw_deck::Thief;
 use cw_io::{Gate, Point};
@@ -73,7 +74,7 @@ impl<B: SharedBoard, J: RunName> Worker<B, J> {
         first: Option<Task<B, J>>,
     ) {
         let mut now = first;
-        let idle = Backoff::new();
+        let mut idle = Idle::new();
         for _ in rt.forever() {
             match now {
                 Some(task) => {
@@ -88,7 +89,7 @@ impl<B: SharedBoard, J: RunName> Worker<B, J> {
                     if now.is_some() {
                         idle.reset();
                     } else {
-                        idle.snooze();
+                        idle.wait(rt);
                     }
                 }
             }
@@ -96,7 +97,7 @@ impl<B: SharedBoard, J: RunName> Worker<B, J> {
         drop(now);
     }
 
-    /// Makes one step of a strand. Returns the task with which the worker goes on.
+    /// Runs a strand to its want, and makes one step of it there. Returns the task with which the worker goes on.
     fn turn<G: Gate, R: Threads + Wait + Sync>(
         &mut self,
         rt: &R,
@@ -106,12 +107,13 @@ impl<B: SharedBoard, J: RunName> Worker<B, J> {
         let mut task = task;
         let now = &mut task.now;
         check_stop(&common.scene, now);
+        run_to_want(&common.scene, now);
         if may_end(&common.scene, &now.token, &now.body, now.mode) {
             return self.finish(rt, common, task);
         }
         match now.mode {
             Mode::Goes => match now.body.want() {
-                Want::Fork => return Some(self.fork(rt, common, task)),
+                Some(Want::Fork) => return Some(self.fork(rt, common, task)),
                 _ => step(rt, &common.scene, common.gate, self.number, now),
             },
             _ => go_back(rt, &common.scene, now),
@@ -119,7 +121,8 @@ impl<B: SharedBoard, J: RunName> Worker<B, J> {
         Some(task)
     }
 
-    /// Forks a strand, and goes on with the left one. All memory is taken before the board's fork.
+    /// Forks a strand, and goes on with the left one. The right one waits where it may be stolen before any of the two runs. All
+    /// memory is taken before the board's fork.
     fn fork<G: Gate, R: Threads + Wait + Sync>(
         &mut self,
         rt: &R,

@@ -187,7 +187,7 @@ impl Play<Slot, View> for Tells {
     ghost then = { told };
 }
 
-/// The tier to which a change comes. Each call picks it.
+/// The tier that a change makes. Each call picks it.
 pub(crate) trait Changing {
     ghost use Rattle.cw_trace.specs.Traces.{Traces};
 

@@ -25,7 +25,7 @@ fn make_odd_as<W: Changing>(table: &Words, seat: &mut TokenSeat, cells: u32, com
 }
 
 impl Shared {
-    /// Makes the version odd, for a change that comes to the tier `come`.
+    /// Makes the version odd before a change. `come` is the tier after it.
     pub fn version_odd(&self, token: &mut StrandToken, come: &Tier)
         requires table { IsTokenOf self.now token.old }
         requires fits { CanChange (key_of self.now) (view_of token.old) come.now }

@@ -58,7 +58,7 @@ enum Legs<'a> {
 }
 
 impl<'a> Legs<'a> {
-    fn want(&self) -> Want {
+    fn want(&self) -> Option<Want> {
         match self {
             Legs::Goes(walker) => walker.want(),
             Legs::Fell(fallen) => fallen.want(),
@@ -187,10 +187,10 @@ fn after(number: u32, more: u32) -> Result<u32, Why> {
 }
 
 /// Whether this halt stops a strand at this want.
-fn stops(halt: Halt, want: Want) -> bool {
+fn stops(halt: Halt, want: Option<Want>) -> bool {
     match (halt, want) {
-        (Halt::Fault { kind, .. }, Want::Fault(wanted)) => kind == wanted,
-        (Halt::Budget { .. }, Want::Load(_) | Want::Store(_, _)) => true,
+        (Halt::Fault { kind, .. }, Some(Want::Fault(wanted))) => kind == wanted,
+        (Halt::Budget { .. }, Some(Want::Load(_) | Want::Store(_, _))) => true,
         (Halt::Memory, _) => true,
         _ => false,
     }

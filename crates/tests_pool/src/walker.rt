@@ -135,23 +135,24 @@ impl<'a> Walker<'a> {
     ) -> Result<Walker<'a>, Why>
         requires { TakesWords program.now (length words.now) }
     {
+        let body = Body::start(alloc, program, words, limits)?;
         Ok(Walker {
             program,
-            body: Body::start(alloc, program, words, limits)?,
+            body,
             level: 0,
             levels: Stack::new(alloc),
         })
     }
 
-    pub(crate) fn want(&self) -> Want {
+    pub(crate) fn want(&self) -> Option<Want> {
         self.body.want()
     }
 
     /// Whether the strand wants to read or write `cell`.
     pub(crate) fn is_at(&self, cell: u32) -> bool {
         match self.body.want() {
-            Want::Load(wanted) => wanted == cell,
-            Want::Store(wanted, _) => wanted == cell,
+            Some(Want::Load(wanted)) => wanted == cell,
+            Some(Want::Store(wanted, _)) => wanted == cell,
             _ => false,
         }
     }
@@ -160,13 +161,27 @@ impl<'a> Walker<'a> {
     pub(crate) fn is_over(&self) -> bool
         ensures { IsTrue result → is_over (want_of self.now.body) ≡ true }
     {
-        matches!(self.body.want(), Want::Sync | Want::Done)
+        matches!(self.body.want(), Some(Want::Sync | Want::Done))
+    }
+
+    /// Goes to the next want.
+    fn runs(self) -> Result<Walker<'a>, Why> {
+        let mut walker = self;
+        let program = walker.program;
+        match walker.body.run(program) {
+            Ok(_) => {}
+            Err(_) => return Err(lost(walker.body, walker.levels, Why::Memory)),
+        }
+        Ok(walker)
     }
 
     /// Goes on behind an access or an output.
     pub(crate) fn acts(self, kind: &Kind) -> Result<Walker<'a>, Why> {
         let mut walker = self;
-        let Some(given) = given(walker.body.want(), kind) else {
+        let Some(want) = walker.body.want() else {
+            return Err(lost(walker.body, walker.levels, Why::Want));
+        };
+        let Some(given) = given(want, kind) else {
             return Err(lost(walker.body, walker.levels, Why::Want));
         };
         let program = walker.program;
@@ -180,7 +195,7 @@ impl<'a> Walker<'a> {
     /// Goes on to put back what the list of a cancel tells.
     pub(crate) fn cancels(self, alloc: Global, back: &[Back]) -> Result<Walker<'a>, Why> {
         let mut walker = self;
-        let Want::Cancel = walker.body.want() else {
+        let Some(Want::Cancel) = walker.body.want() else {
             return Err(lost(walker.body, walker.levels, Why::Want));
         };
         let program = walker.program;
@@ -201,15 +216,11 @@ impl<'a> Walker<'a> {
     /// Goes on in a block.
     pub(crate) fn begins(self) -> Result<Walker<'a>, Why> {
         let mut walker = self;
-        let Want::Begin = walker.body.want() else {
+        let Some(Want::Begin) = walker.body.want() else {
             return Err(lost(walker.body, walker.levels, Why::Want));
         };
-        let saved = match walker.body.save() {
-            Ok(saved) => saved,
-            Err(_) => return Err(lost(walker.body, walker.levels, Why::Memory)),
-        };
         let program = walker.program;
-        match walker.body.begins(saved, program) {
+        match walker.body.begins(program) {
             Ok(()) => {}
             Err(_) => return Err(lost(walker.body, walker.levels, Why::Memory)),
         }
@@ -229,7 +240,7 @@ impl<'a> Walker<'a> {
             level,
             mut levels,
         } = self;
-        let Want::End = body.want() else {
+        let Some(Want::End) = body.want() else {
             return Err(lost(body, levels, Why::Want));
         };
         let Some(_) = levels.pop() else {
@@ -250,7 +261,7 @@ impl<'a> Walker<'a> {
     /// Returns the left and the right strand of a fork.
     pub(crate) fn forks(self, alloc: Global) -> Result<(Walker<'a>, Walker<'a>), Why> {
         let mut right = self;
-        let Want::Fork = right.body.want() else {
+        let Some(Want::Fork) = right.body.want() else {
             return Err(lost(right.body, right.levels, Why::Want));
         };
         let Some(level) = right.level.checked_add(1) else {
@@ -268,7 +279,14 @@ impl<'a> Walker<'a> {
             level: 0,
             levels: Stack::new(alloc),
         };
-        Ok((left, right))
+        let left = match left.runs() {
+            Ok(left) => left,
+            Err(why) => {
+                drop(right);
+                return Err(why);
+            }
+        };
+        Ok((left, right.runs()?))
     }
 
     /// Joins a fork: this right strand becomes the strand that forked.
@@ -297,7 +315,7 @@ impl<'a> Walker<'a> {
             Err(_) => return Err(lost(right.body, right.levels, Why::Memory)),
         }
         right.level = right.level.saturating_sub(1);
-        Ok(right)
+        right.runs()
     }
 
     /// Gives up: goes no further.
@@ -319,7 +337,7 @@ impl<'a> Walker<'a> {
 }
 
 impl<'a> Fallen<'a> {
-    pub(crate) fn want(&self) -> Want {
+    pub(crate) fn want(&self) -> Option<Want> {
         self.body.want()
     }
 
@@ -357,7 +375,10 @@ impl<'a> Fallen<'a> {
         let Some(above) = level.checked_add(1) else {
             return Err(lost(body, levels, Why::Memory));
         };
-        if matches!(body.want(), Want::End) {
+        let Some(want) = body.want() else {
+            return Err(lost(body, levels, Why::Want));
+        };
+        if matches!(want, Want::End) {
             return Err(lost(body, levels, Why::Want));
         }
         let below = match are_below(&levels, above) {

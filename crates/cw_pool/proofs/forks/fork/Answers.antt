@@ -1,4 +1,4 @@
-use Rattle.std.proofs.Common.{sym, refl, subst}
+use Rattle.std.proofs.Common.{sym, refl, subst, ◌∙◌}
 use Rattle.cw_body.specs.Bodies.{InBlocks}
 use Rattle.cw_pool.specs.Forks.{IsForking}
 use Rattle.cw_pool.proofs.Tasks.Acting.{going}
@@ -16,7 +16,7 @@ fork_token-requires-clause-forking g c κs within =
     let of = g.B.SharedBoard.of in
     subst (λ (w : InBlocks). IsForking {T = g.row.B-Token.Denot} {J = g.row.J.Denot} job of (of c.now.inside.token) w c.in-Ok-fork.left c.fork.new.self c.reserve.new.self.items c.now.inside.base) (sym c.of-before.ensures) (record {
       task = with_below _ _ _ _ _ _ _ _ c.reserve.ensures.items (going _ _ c.in-Goes.is c.now.invariant);
-      wants = sym (c.in-Fork.ensures job);
+      wants = sym (c.in-Some-Fork.ensures job) ∙ c.in-Some-Fork.field-0-is;
       left = c.in-Ok-fork.ensures.left job (sym c.args.scene.now.program_of);
       right = c.in-Ok-fork.ensures.right job (sym c.args.scene.now.program_of);
     })

@@ -10,5 +10,5 @@ invariant_of-self c =
     let P : InBlocks → Type 0 = λ v. v.stage ≢ Lost in
     record {
       kept = c.self.invariant.kept;
-      stands = gives_up_so x.program.value x.stage.value c.of.result.value x.level x.standing x.begins (subst P (sym c.self.view_is) c.requires) c.of.ensures c.self.invariant.stands;
+      stands = gives_up_so x.program.value x.stage.value c.of.result.value x.level x.runner x.begins (subst P (sym c.self.view_is) c.requires) c.of.ensures c.self.invariant.stands;
     }

@@ -10,5 +10,5 @@ invariant_of-walker c =
     let x = c.args.self in
     let job = bare_job x.program.now in
     let h : Stands Goes x.program.now x.level x.levels x.body = record { at = x.goes; of = x.of; around = x.around } in
-    let w = begins Goes x.program.now x.level (strands_of_job job) x.levels x.body c.begins.new.self h (c.in-Ok-begins.ensures.ok job refl) in
+    let w = begins Goes x.program.now x.level (strands_of_job job) x.levels x.body c.begins.new.self h (c.in-Ok.ensures.ok job refl) in
     record { goes = w.at; of = w.of; around = c.in-Ok-push.ensures.ok ∙ w.around }

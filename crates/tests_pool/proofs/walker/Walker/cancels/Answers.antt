@@ -22,7 +22,7 @@ answer-requires-clause-answers c =
     let same : c.from_vec-list.result ≡ c.args.back.now = c.from_vec-list.ensures ∙ c.in-Ok.ensures.items in
     let listed : AreElements n c.from_vec-list.result =
     subst (λ (bs : List Back). AreElements n bs) (sym same) (subst (λ (k : ℕ). AreElements k c.args.back.now) (sym many) there) in
-    subst (λ (w : Want). AnswersAct n w (Wrote c.from_vec-list.result)) (c.in-Cancel.ensures (bare_job x.body.program)) listed
+    subst (λ (w : Want). AnswersAct n w (Wrote c.from_vec-list.result)) (sym (sym (c.in-Some-Cancel.ensures (bare_job x.body.program)) ∙ c.in-Some-Cancel.field-0-is)) listed
 
 pub invariant_of-walker : goal.invariant_of-walker
 invariant_of-walker c =
