@@ -1,5 +1,5 @@
 -- The strands of a compiled program are those of its source, so a walk over its strands decides what a sheet asks.
-use Rattle.std.proofs.Common.{◌≡◌, ℕ, ℤ, List, length, ap, sym, ◌∙◌, subst, Bool}
+use Rattle.std.proofs.Common.{◌≡◌, ℕ, ℤ, List, length, ap, ◌∙◌, subst, Bool}
 use Rattle.std.specs.Prelude.{◌↔◌, IsTrue}
 use Rattle.cw_text.specs.Syntax.{Declaration}
 use Rattle.cw_code.specs.declared.instruction.Code.{Code}
@@ -7,11 +7,10 @@ use Rattle.cw_code.specs.declared.program.Program.{Program}
 use Rattle.cw_code.specs.declared.Limits.{Limits}
 use Rattle.cw_strand.specs.Strands.{Strands}
 use Rattle.cw_strand.specs.Coded as coded
-use Rattle.cw_strand.specs.Coded.{MainTakes}
-use Rattle.cw_strand.specs.Compilation.{code_of, main_function}
+use Rattle.cw_strand.specs.Compilation.{code_of}
 use Rattle.cw_strand.specs.Programs.{IsProgramOf}
 use Rattle.cw_strand.specs.Laws.{compiled}
-use Rattle.cw_job.specs.Jobs.{Job, TakesWords}
+use Rattle.cw_job.specs.Jobs.{Job}
 use Rattle.cw_job.specs.Room.Strands.{strands_of_job}
 use Rattle.cw_tree.specs.declared.node.Node.{Node}
 use Rattle.cw_tree.specs.Nodes.{is_strand}
@@ -27,12 +26,6 @@ module _ (ds : List Declaration) (p : Program) (is : IsProgramOf ds p) where
   unfolding strands_of_job
   law_same words limits =
       ap (λ (c : Code). coded.strands_of_code c p.main words limits) is.code ∙ ap (λ (m : ℕ). coded.strands_of_code (code_of ds) m words limits) is.main
-
-  pub words_taken : (n : ℕ) → MainTakes (code_of ds) (main_function ds) n → TakesWords p n
-  words_taken n w =
-      let P : Code → Type 0 = λ code. MainTakes code p.main n in
-      let Q : ℕ → Type 0 = λ main. MainTakes (code_of ds) main n in
-      subst P (sym is.code) (subst Q (sym is.main) w)
 
 module _ {A : Type 0} (t : List Node) (e : RecordEnd) (tree : IsTree t) (named : IsTrue (is_strand t (ending_strand e))) where
   -- whether the strand of main fits decides it

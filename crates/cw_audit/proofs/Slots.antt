@@ -9,7 +9,7 @@ use Rattle.cw_tree.specs.declared.node.Node.{Node}
 use Rattle.cw_job.specs.declared.standing.Standing.{Standing}
 use Rattle.cw_job.specs.Room.Strands.{StrandState}
 use Rattle.cw_audit.specs.Settled.{IsSome, joins}
-use Rattle.cw_audit.specs.Visits.{WalkSpot, kept_last, gone_back, turned, joined_from, joined_strand}
+use Rattle.cw_audit.specs.Visits.{WalkSpot, kept_last, joined_from, joined_strand}
 use Rattle.cw_audit.specs.Walkers.{state_there, IsOfIfThere}
 
 pub both_ok : {T E P Q R : Type 0} (r : Result T E) → (P → Q → R) → OnOk r P → OnOk r Q → OnOk r R
@@ -19,14 +19,6 @@ both_ok (Err e) f p q = tt
 -- where these strands are
 abbrev pub spot_at : Option Standing → List (Option Standing) → WalkSpot StrandState
 spot_at o os = record { now = state_there o; kept = map state_there os }
-
-pub turned_at : (o : Option Standing) (os : List (Option Standing)) → spot_at (kept_last os) (o ∷ drop 1 os) ≡ turned (spot_at o os)
-turned_at o [] = refl
-turned_at o (p ∷ os) = refl
-
-pub back_at : (o : Option Standing) (os : List (Option Standing)) → spot_at (kept_last os) (drop 1 os) ≡ gone_back (spot_at o os)
-back_at o [] = refl
-back_at o (p ∷ os) = refl
 
 pub joined_at : (s : Strands StrandState) (t : List Node) (o p : Option Standing) (os : List (Option Standing)) → state_there p ≡ joins s t (state_there o) (state_there (kept_last os))
     → spot_at p (drop 1 os) ≡ joined_from s t (spot_at o os)

@@ -15,7 +15,7 @@ use Rattle.cw_tree.proofs.Members.{in_append, append_in, in_reverse}
 use Rattle.cw_tree.proofs.InOrder.DepthFirst.{child_is, whole, walk_step}
 use Rattle.cw_record.specs.declared.record_end.RecordEnd.{RecordEnd}
 use Rattle.cw_audit.specs.Settled.{CanDo}
-use Rattle.cw_audit.specs.Visits.{WalkSpot, beginning}
+use Rattle.cw_audit.specs.Visits.{WalkSpot}
 use Rattle.cw_audit.specs.Visiting.{steps_after, IsThere, MayEnter, entered_node, MayVisit, visited}
 use Rattle.cw_audit.specs.declared.strands.walk.Visit.{Visit}
 use Rattle.cw_audit.specs.declared.strands.walk.Visit.TheVariants.{Enter, Leave}
@@ -96,19 +96,6 @@ module _ {A : Type 0} (s : Strands A) (t : List Node) (e : RecordEnd) where
   pub record IsGoing (stack : List Visit) (p : WalkSpot A) : Type 0 where
     pub fits : CanDo s t e (length t) 0 s.start ↔ Goes s t e (reverse stack) p
     pub there : (v : Visit) → In v stack → IsThere t v
-
-  pub going_first : IsTree t → (stack : List Visit) → stack ≡ Enter 0 ∷ [] → (p : WalkSpot A) → p ≡ beginning s → IsGoing stack p
-  going_first tree stack first p at =
-      let P : List Visit → WalkSpot A → Type 0 = λ vs q. CanDo s t e (length t) 0 s.start ↔ Goes s t e (reverse vs) q in
-      let Q : List Visit → Type 0 = λ vs. (v : Visit) → In v vs → IsThere t v in
-      let S : Visit → Type 0 = IsThere t in
-      record {
-        fits = subst (λ vs. P vs p) (sym first) (subst (P (Enter 0 ∷ [])) (sym at) ((λ f. (f, tt)), (λ g. g.0)));
-        there = subst Q (sym first) (λ v i. elim i [ inl q ↦ subst S (sym q) tree.some | inr z ↦ absurd z ]);
-      }
-
-  pub going_last : (stack : List Visit) (p : WalkSpot A) → IsGoing stack p → stack ≡ [] → CanDo s t e (length t) 0 s.start
-  going_last stack p w none = (let P : List Visit → Type 0 = λ vs. Goes s t e (reverse vs) p in w.fits.1 (subst P (sym none) tt))
 
   module _ (stack rest : List Visit) (v : Visit) (p : WalkSpot A) (w : IsGoing stack p) (taken : stack ≡ rest ++ v ∷ []) where
     reversed : reverse stack ≡ v ∷ reverse rest
