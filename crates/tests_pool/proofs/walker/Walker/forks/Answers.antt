@@ -21,3 +21,12 @@ invariant_of-right c =
     let w = goes_right Goes x.program.now x.level (strands_of_job job) x.levels x.body c.fork.new.self h (c.in-Ok.ensures.right job refl) in
     let up : c.in-Some.level ≡ x.level + 1 = search (rules, c.in-Some.ensures) in
     record { goes = w.at; of = w.of; around = w.around ∙ ap (λ k. levels_at k c.fork.new.self.begins) (sym up) }
+
+pub invariant_of-right-2 : goal.invariant_of-right-2
+invariant_of-right-2 c =
+    let x = c.args.self in
+    let job = bare_job x.program.now in
+    let h : Stands Goes x.program.now x.level x.levels x.body = record { at = x.goes; of = x.of; around = x.around } in
+    let w = goes_right Goes x.program.now x.level (strands_of_job job) x.levels x.body c.fork.new.self h (c.in-Ok.ensures.right job refl) in
+    let up : c.in-Some.level ≡ x.level + 1 = search (rules, c.in-Some.ensures) in
+    record { goes = w.at; of = w.of; around = w.around ∙ ap (λ k. levels_at k c.fork.new.self.begins) (sym up) }
