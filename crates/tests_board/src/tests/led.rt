@@ -9,8 +9,9 @@ ghost use Rattle.cw_tree.specs.declared.conflict.Conflict.{Conflict};
 ghost use Rattle.cw_board.specs.Boards.{budget_of, cells_in, columns_of, table_of, IsAt, IsOf};
 ghost use Rattle.tests_board.specs.Led.{IsLed};
 
-use cw_base::{OutOfMemory, Stack};
+use cw_base::{OutOfMemory, Seq, Stack};
 use cw_board::{Board, BoardName, Moved};
+use cw_code::Back;
 use cw_log::{Above, Access, Forked, Logs, Phase};
 use cw_order::Steps;
 use cw_steps::StrandToken;
@@ -430,6 +431,26 @@ impl<N: BoardName> Scene<N> {
         }
         match self.board.access(rt, &mut token, cell, write) {
             Ok(access) => Ok((strand_of(token, stand), access)),
+            Err(_) => Err(lost(token, stand)),
+        }
+    }
+
+    /// Gives up a block. Returns what is put back.
+    pub(super) fn cancel<R: Wait>(
+        &self,
+        rt: &R,
+        led: Strand<N>,
+    ) -> Result<(Strand<N>, Seq<Back>), OutOfMemory> {
+        let Strand { token, stand, .. } = led;
+        let mut token = token;
+        if !goes(&token, &stand, self.budget) {
+            return Err(lost(token, stand));
+        }
+        if token.place() == stand.strand {
+            return Err(lost(token, stand));
+        }
+        match self.board.cancel(rt, &mut token) {
+            Ok(back) => Ok((strand_of(token, stand), back)),
             Err(_) => Err(lost(token, stand)),
         }
     }

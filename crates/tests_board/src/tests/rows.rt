@@ -7,7 +7,7 @@ ghost use Rattle.cw_board.specs.Boards.{budget_of, cells_in, columns_of, table_o
 use super::led::{Scene, Strand};
 use cw_base::OutOfMemory;
 use cw_board::{Board, BoardName, Moved};
-use cw_code::Limits;
+use cw_code::{Back, Limits};
 use cw_log::Access;
 use cw_trace::Verdict;
 use cw_tree::{Closed, Conflict, Entry, Mark, Node};
@@ -30,6 +30,7 @@ pub(super) enum Call {
     Join(usize, usize),
     Merge(usize),
     Roll(usize),
+    Cancel(usize),
     Chain(usize, u32),
     /// Asks about an access that a column made, with its stamp.
     Ask(usize, u32, u64),
@@ -108,6 +109,15 @@ fn chain_told(text: &mut String, chain: &[u64]) -> Result<(), Fail> {
     stamps_told(text, chain)
 }
 
+/// Writes what is put back, each cell with its value.
+fn list_told(text: &mut String, list: &[Back]) -> Result<(), Fail> {
+    text.push_str("back ")?;
+    for back in list {
+        write!(text, "{}={} ", back.cell, back.value)?;
+    }
+    Ok(())
+}
+
 fn access_told(text: &mut String, access: &Access) -> Result<(), Fail> {
     match access {
         Access::Value(value) => value_told(text, *value),
@@ -133,6 +143,7 @@ fn moved<N: BoardName, R: Wait>(
         | Call::Write(_, _, _)
         | Call::Fork(_)
         | Call::Join(_, _)
+        | Call::Cancel(_)
         | Call::Chain(_, _)
         | Call::Ask(_, _, _) => Ok(led),
     }
@@ -161,6 +172,19 @@ fn accessed<N: BoardName, R: Wait>(
     let (led, access) = scene.access(rt, led, cell, write)?;
     let told = access_told(text, &access);
     drop(access);
+    kept(led, told)
+}
+
+/// Gives up a block, and writes what is put back.
+fn cancelled<N: BoardName, R: Wait>(
+    rt: &R,
+    scene: &Scene<N>,
+    led: Strand<N>,
+    text: &mut String,
+) -> Result<Strand<N>, Fail> {
+    let (led, back) = scene.cancel(rt, led)?;
+    let told = list_told(text, back.as_slice());
+    drop(back);
     kept(led, told)
 }
 
@@ -198,6 +222,7 @@ fn told<N: BoardName, R: Wait>(
     match call {
         Call::Read(_, cell) => accessed(rt, scene, led, (cell, None), text),
         Call::Write(_, cell, value) => accessed(rt, scene, led, (cell, Some(value)), text),
+        Call::Cancel(_) => cancelled(rt, scene, led, text),
         Call::Chain(_, cell) => chained(rt, scene, led, cell, text),
         Call::Ask(_, strand, stamp) => asked(scene, led, Mark { strand, stamp }, text),
         Call::Begin(_)
@@ -223,6 +248,7 @@ fn who(call: Call) -> usize {
         | Call::Join(n, _)
         | Call::Merge(n)
         | Call::Roll(n)
+        | Call::Cancel(n)
         | Call::Chain(n, _)
         | Call::Ask(n, _, _) => n,
     }
@@ -414,7 +440,7 @@ pub(super) fn expect<R: Wait>(
 
 #[test]
 fn strands_take_turns(rt: HostRuntime) -> Result<(), Fail> {
-    let table: [(&str, &[i64], &[Call], &str); 6] = [
+    let table: [(&str, &[i64], &[Call], &str); 8] = [
         (
             "one strand reads what it wrote",
             &[0],
@@ -517,6 +543,43 @@ fn strands_take_turns(rt: HostRuntime) -> Result<(), Fail> {
                 Call::Merge(0),
             ],
             "1 5 Ok(Against(2)) conflict 0 last 4 asker 1 block 2 victim 0 attempt 1 of 4 conflict 0 last 4 asker 2 block 2 victim 0 attempt 2 of 4 1 2 nodes 0 1 0 2-7 3 0 5 0 4 6 0 0 0 8 refused 11 by 2 refused 12 by 2 cell 4=1 8=2 cell 5=5 6=1",
+        ),
+        (
+            "a cancel lists each cell once, with its value from before",
+            &[7, 8],
+            &[
+                Call::Begin(0),
+                Call::Write(0, 0, 1),
+                Call::Begin(0),
+                Call::Write(0, 1, 5),
+                Call::Commit(0),
+                Call::Write(0, 0, 2),
+                Call::Cancel(0),
+                Call::Write(0, 0, 7),
+                Call::Write(0, 1, 8),
+                Call::Commit(0),
+                Call::Read(0, 0),
+                Call::Read(0, 1),
+            ],
+            "1 5 2 back 0=7 1=8 7 8 7 8 nodes 0 1-10 2 3-5 4 6 7 8 9 11 12 cell 2=1 6=2 8=7 11=7 cell 4=5 9=8 12=8",
+        ),
+        (
+            "a cancel lists what a stolen branch wrote",
+            &[7, 8],
+            &[
+                Call::Begin(0),
+                Call::Fork(0),
+                Call::Split(1),
+                Call::Write(1, 1, 5),
+                Call::Write(0, 0, 1),
+                Call::Join(0, 1),
+                Call::Merge(0),
+                Call::Cancel(0),
+                Call::Write(0, 0, 7),
+                Call::Write(0, 1, 8),
+                Call::Commit(0),
+            ],
+            "5 1 back 0=7 1=8 7 8 nodes 0 1-8 2 0 4 0 3 5 6 7 cell 4=1 6=7 cell 3=5 7=8",
         ),
         (
             "a block is undone after one within it was committed",
