@@ -1,9 +1,9 @@
 #!/usr/bin/env bash
 # Shows that a sheet is checked in proportion to its nodes: 100,000 and 1,000,000 accesses in one strand; forks in forks, which one memory
 # would make all at once; 8,000 and 80,000 refusals of one access inside 2,000 blocks; 4,096 elements touched inside 10,000 and 100,000
-# blocks inside each other, and again outside; 500 and 5,000 blocks inside each other that are given up. Each time is that of the whole
-# command: reading the sheet and auditing it. A node of the large sheet takes at most 1.5 times as long as one of the small one, and
-# 1,000,000 nodes under 3 s and 1 GB.
+# blocks inside each other, and again outside; 500 and 5,000 blocks inside each other that are given up; 1,000 and 10,000 one after
+# another, with 50 accesses behind each. Each time is that of the whole command: reading the sheet and auditing it. A node of the large
+# sheet takes at most 1.5 times as long as one of the small one, and 1,000,000 nodes under 3 s and 1 GB.
 # Usage: bench/sheets.sh PROGRAM, with the program as the gate builds it: crates/cwstm/out/cwstm, once `rt ci` has passed.
 # Ends with status 1 if it is not so.
 set -eu
@@ -48,6 +48,7 @@ sheet_of() {
       keep_run "cell a[4096]; fn t(i) { while i < 4096 { a[i] = i; i = i + 1; } } fn f(n) { $blocks if n { f(n - 1); } else { t(0); } $ends } fn main() { f($2 / 20 - 1); t(0); }" --fuel 1000000000
       ;;
     'blocks that are given up') keep_run "language 2; cell c; fn f(n) { atomic { c = n; if n { f(n - 1); } cancel; } } fn main() { f($2 - 1); out c; }" --fuel 1000000000 ;;
+    'blocks given up one after another') keep_run "language 2; cell c; cell d; fn main() { let i = 0; while i < $2 { atomic { c = i; cancel; } let j = 0; while j < 50 { d = j; j = j + 1; } i = i + 1; } }" --fuel 1000000000 ;;
   esac
 }
 
@@ -72,5 +73,6 @@ forks in forks|100000|1000000
 refusals inside 2,000 blocks|8000|80000
 blocks around 4,096 elements|10000|100000
 blocks that are given up|500|5000
+blocks given up one after another|1000|10000
 SHAPES
 exit "$wrong"

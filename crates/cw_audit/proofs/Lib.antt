@@ -24,6 +24,10 @@ pub mod Ends
 pub mod Recording
 pub mod Together
 pub mod Backs
+pub mod GivenUp
+pub mod ByEntries
+pub mod FurtherOut
+pub mod Shown
 pub mod Settling
 pub mod Going
 pub mod Stepping

@@ -21,5 +21,6 @@ pub mod Visiting
 pub mod Walkers
 pub mod Together
 pub mod Backs
+pub mod Naming
 pub mod Groundwork
 pub mod Worked

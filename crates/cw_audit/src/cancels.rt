@@ -7,18 +7,21 @@ ghost use Rattle.cw_tree.specs.Nodes.{all_nodes, below, stamp_of};
 ghost use Rattle.cw_tree.specs.Walks.{is_above};
 ghost use Rattle.cw_audit.specs.Backs.{CancelHolds, list_told, value_back};
 ghost use Rattle.cw_audit.specs.LiveAccesses.{all_live_accesses};
+ghost use Rattle.cw_audit.specs.Naming.{HoldSoFar};
 ghost use Rattle.cw_audit.specs.Spans.{AreSpans};
 
 use crate::accesses::written;
-use crate::by_cell::journals;
+use crate::entries::Survey;
 use crate::spans::Spans;
+use crate::surely::are_surely_cancels;
 use cw_base::{OutOfMemory, Seq};
 use cw_code::Back;
 use cw_tree::{Kind, Tree};
 use std::alloc::Global;
 
-/// Decides part 7, given the live accesses, oldest first, and the first values: whether each live cancel tells what its block puts
-/// back. Takes one pass over the journals for each live cancel.
+/// Decides part 7, once parts 1 to 3 hold, given the live accesses, oldest first, and the first values: whether each live cancel tells
+/// what its block puts back. Where the quick way says so, that takes a few passes over the nodes. Otherwise it takes one pass over the
+/// journals for each live cancel.
 pub(crate) fn cancels_hold(
     alloc: Global,
     tree: &Tree,
@@ -29,11 +32,15 @@ pub(crate) fn cancels_hold(
     requires lives { lives.now ≡ map (is_live tree.now) (all_nodes tree.now) }
     requires accesses { accesses.now ≡ all_live_accesses tree.now }
     requires cells { FitsCells tree.now (length first.now) }
+    requires before { HoldSoFar tree.now first.now }
     ensures { IfOk result (λ b. IsTrue b ↔ AreCancels tree.now first.now) }
 {
-    let spans = Spans::of_tree(alloc, tree)?;
-    let journals = journals(alloc, tree, accesses, first.len())?;
-    Ok(all_hold(tree, &spans, lives, journals.as_slice(), first))
+    let survey = Survey::of_tree(alloc, tree, accesses, first.len())?;
+    if are_surely_cancels(alloc, tree, lives, &survey, first)? {
+        return Ok(true);
+    }
+    let journals = survey.journals.as_slice();
+    Ok(all_hold(tree, &survey.spans, lives, journals, first))
 }
 
 /// The same, given the journals.
@@ -102,7 +109,7 @@ fn cancel_holds(tree: &Tree, spans: &Spans, journals: &[Seq<u32>], first: &[i64]
 }
 
 /// Returns what a node tells that its block puts back, if it is a cancel.
-fn list_told(tree: &Tree, n: u32) -> Option<&[Back]>
+pub(crate) fn list_told(tree: &Tree, n: u32) -> Option<&[Back]>
     requires { n < length tree.now }
     ensures { option_map (λ back. back.now) result ≡ list_told tree.now n }
 {
@@ -177,7 +184,7 @@ fn value_back(
 }
 
 /// Returns the journal of a cell.
-fn journal_of(journals: &[Seq<u32>], cell: usize) -> &[u32]
+pub(crate) fn journal_of(journals: &[Seq<u32>], cell: usize) -> &[u32]
     requires { cell < length journals.now }
     ensures { slice_get journals.now cell ≡ Some result.now }
 {
@@ -200,7 +207,7 @@ fn wrote_in(tree: &Tree, spans: &Spans, journal: &[u32], block: u32, stamp: u64)
 }
 
 /// The same for one access.
-fn has_written(tree: &Tree, spans: &Spans, access: u32, block: u32, stamp: u64) -> bool
+pub(crate) fn has_written(tree: &Tree, spans: &Spans, access: u32, block: u32, stamp: u64) -> bool
     requires access { access < length tree.now }
     requires block { block < length tree.now }
     requires spans { AreSpans tree.now spans.now.first.items spans.now.last.items }

@@ -5,8 +5,8 @@
 //! journals that a tree tells), and `specs/Laws.antt` (what the parts say together). `specs/TwoBlocks.antt` and `Together` are short
 //! ways to parts 3 and 7. `specs/Settled.antt` tells from the tree alone whether strands can have done what it tells.
 //! `specs/Worked.antt` tries it all on examples. `Groundwork`, `Stamps`, `Latest`, `LiveAccesses`, `Spans`, `Ended`, `Later`, `Victims`,
-//! `Stamped`, `Apart`, `Repeats`, `Told`, `Moments`, `Backs`, `Visits`, `Visiting` and `Walkers` have what is computed on the way to an
-//! answer.
+//! `Stamped`, `Apart`, `Repeats`, `Told`, `Moments`, `Backs`, `Naming`, `Visits`, `Visiting` and `Walkers` have what is computed on the
+//! way to an answer.
 #![tactic(auto)]
 
 ghost use Rattle.cw_job.specs.Jobs.{Job};
@@ -25,12 +25,14 @@ mod blocks;
 mod by_cell;
 mod cancels;
 mod ending;
+mod entries;
 mod findings;
 mod firsts;
 mod kinds;
 mod latest;
 mod limits;
 mod moments;
+mod naming;
 mod outputs;
 mod parts;
 mod program;
@@ -43,6 +45,7 @@ mod spent;
 mod stamped;
 mod stamps;
 mod strands;
+mod surely;
 mod told;
 mod victims;
 mod words;

@@ -1,6 +1,7 @@
 pub mod Sound
 pub mod Boards
 pub mod Returning
+pub mod Naming
 pub mod Showing
 pub mod Holding
 pub mod Forking

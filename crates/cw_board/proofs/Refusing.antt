@@ -1,10 +1,14 @@
--- Serves `IsBarrierAmong` and `Refuses`: an access that is refused.
-use Rattle.std.proofs.Common.{◌≡◌, ◌∙◌, ℕ, ◌-◌, length, take, List, [], ◌∷◌, ◌++◌, ap, reverse, refl, sym, subst, inl, inr, arith}
-use Rattle.std.specs.Prelude.{◌⊎◌, Contains, IfOk, IfSome, OnOk, Option, Some, None, Result, Ok, Err}
+-- Serves `IsJudgedBy`: what a question finds of an access.
+use Rattle.std.proofs.Common.{◌≡◌, ◌∙◌, ℕ, ℤ, length, List, [], ◌∷◌, ◌++◌, ap, reverse, refl, sym, subst, inl, inr, arith}
+use Rattle.std.specs.Prelude.{◌⊎◌, Contains, IfOk, IfSome, IsSomeAnd, OnOk, Option, Some, None, option_map, Result, Ok, Err}
 use Rattle.std.proofs.lemmas.List.{map-append, reverse-append}
 use Rattle.std.proofs.lemmas.List.Elements.{Contains-append_cases, Contains-append_left, Contains-push, Contains-push_cases}
-use Rattle.cw_base.specs.declared.memory.OutOfMemory.{OutOfMemory}
+use Rattle.cw_stack.specs.Cells.{newest_entry, CellParts}
+use Rattle.cw_tree.specs.declared.access.Entry.{Entry}
 use Rattle.cw_tree.specs.declared.access.Mark.{Mark}
+use Rattle.cw_tree.specs.declared.conflict.Conflict.{Conflict}
+use Rattle.cw_tree.specs.AccessStacks.{stamps}
+use Rattle.cw_tree.specs.Newest.{last_eight}
 use Rattle.cw_log.specs.declared.board.Access.{Access}
 use Rattle.cw_log.specs.declared.board.Access.TheVariants as access
 use Rattle.cw_log.specs.declared.log.Above.{Above}
@@ -12,21 +16,21 @@ use Rattle.cw_log.specs.declared.token.Token.{Token}
 use Rattle.cw_log.specs.Answers.{IsAround}
 use Rattle.cw_steps.specs.declared.table.StrandToken.{StrandToken}
 use Rattle.cw_steps.specs.Stands.{token_of}
-use Rattle.cw_steps.specs.Tracks.{begins, track_of}
+use Rattle.cw_steps.specs.Tracks.{begins, one_more, track_of, tries_of}
 use Rattle.cw_steps.specs.Views.{view_of}
 use Rattle.cw_board.specs.declared.board.Board.{Board}
 use Rattle.cw_board.specs.declared.victims.Barrier.{Barrier}
-use Rattle.cw_board.specs.Asked.{noted_since, HasNoted}
-use Rattle.cw_board.specs.Victims.{begin_of, IsBarrierAmong, IsRefusedAfter, Refuses}
-use Rattle.cw_board.proofs.Passes.{barrier_earlier}
+use Rattle.cw_board.specs.Asked.{HasRead}
+use Rattle.cw_steps.specs.declared.view.WordNote.{WordNote}
+use Rattle.cw_board.specs.Victims.{begin_of, conflict_with, GivesValue, IsJudged, IsJudgedBy, IsJudgedSince, IsRefusedBy, Refuses}
+
+pub ok_and : {A E : Type 0} (P Q R : A → Type 0) (r : Result A E) → ((a : A) → P a → Q a → R a) → IfOk r P → IfOk r Q → IfOk r R
+ok_and P Q R (Ok a) f h g = f a h g
+ok_and P Q R (Err e) f h g = h
 
 pub ok_both : {A E : Type 0} (P Q : A → Type 0) (N : Type 0) (r : Result A E) → ((a : A) → N → P a → Q a) → OnOk r N → IfOk r P → IfOk r Q
 ok_both P Q N (Ok a) f n h = f a n h
 ok_both P Q N (Err e) f n h = h
-
-pub some_too : {A : Type 0} (P Q : A → Type 0) (o : Option A) → ((a : A) → P a → Q a) → IfSome o P → IfSome o Q
-some_too P Q (Some a) f h = f a h
-some_too P Q None f h = h
 
 -- ## Blocks around a place
 
@@ -57,30 +61,30 @@ falls_around x x' (Some a) e h = inr (subst (λ (y : Token). Contains y.around a
 
 -- ## The answer
 
--- a question and a search of this token found what its conflict tells
-pub refuses_after : (b : Board) (t u v : StrandToken) (last : Mark) (bar : Barrier) (x y : Token) (c own : ℕ) (chain : List ℕ) (a : Access) → (view_of v).notes ≡ (view_of u).notes → IsBarrierAmong b last t (noted_since t u) bar.block bar.victim
-    → Refuses x y c last.stamp bar own chain a → IsRefusedAfter b t v a
-refuses_after b t u v last bar x y c own chain (access.Value n) same h r = absurd r
-refuses_after b t u v last bar x y c own chain (access.Conflict k) same h r = record {
-  last = last;
-  last_is = ap (λ j. j.last) r.0;
-  victim = bar.victim;
-  victim_is = ap (λ j. j.victim) r.0;
-  barrier = subst (λ (n : ℕ). IsBarrierAmong b last t (noted_since t v) n bar.victim) (sym (ap (λ j. j.block) r.0))
-      (subst (λ ns. IsBarrierAmong b last t ns bar.block bar.victim) (ap (λ ns. take (length ns - length (view_of t).notes) ns) (sym same)) h);
-}
+-- a refused access gives no value
+pub gives_none : (x y : Token) (cell last : ℕ) (bar : Barrier) (own : ℕ) (chain : List ℕ) (lay : CellParts) (write : Option ℤ) (a : Access) → Refuses x y cell last bar own chain a → GivesValue lay write a
+gives_none x y cell last bar own chain lay write (access.Value n) r = absurd r
+gives_none x y cell last bar own chain lay write (access.Conflict k) r = tt
 
--- the call began earlier
-pub refused_earlier : (b : Board) (s t v : StrandToken) → HasNoted s t → track_of t.track ≡ track_of s.track → token_of t ≡ token_of s → (a : Access) → IsRefusedAfter b t v a → IsRefusedAfter b s v a
-refused_earlier b s t v more track token (access.Value n) h = h
-refused_earlier b s t v more track token (access.Conflict k) h = record {
-  last = h.last;
-  last_is = h.last_is;
-  victim = h.victim;
-  victim_is = h.victim_is;
-  barrier = barrier_earlier b h.last k.block h.victim s t v more track token h.barrier;
-}
+-- what is so of a mark is so of the newest entry, which has that mark
+newest_and : (P : Mark → Type 0) (o : Option Entry) (last : Mark) → Some last ≡ option_map (λ (e : Entry). e.mark) o → P last → IsSomeAnd o (λ (e : Entry). P e.mark)
+newest_and P None last is p = subst (λ q. IsSomeAnd q P) is p
+newest_and P (Some e) last is p = subst (λ q. IsSomeAnd q P) is p
 
-pub refused_since : (b : Board) (s t v : StrandToken) → HasNoted s t → track_of t.track ≡ track_of s.track → token_of t ≡ token_of s → (r : Result Access OutOfMemory) → IfOk r (IsRefusedAfter b t v) → IfOk r (IsRefusedAfter b s v)
-refused_since b s t v more track token (Ok a) h = refused_earlier b s t v more track token a h
-refused_since b s t v more track token (Err e) h = h
+-- the token noted nothing after that
+pub judged_still : (b : Board) (last : Mark) (t u v : StrandToken) (found : Option Barrier) → (view_of v).notes ≡ (view_of u).notes → IsJudgedSince b last t u found → IsJudgedSince b last t v found
+judged_still b last t u v found same h = record { between = h.between; is = subst (λ (ns : List WordNote). IsJudged b last t (h.between ++ (view_of t).notes) ns found) (sym same) h.is }
+
+module _ (b : Board) (cell : ℕ) (entries : List Entry) (last : Mark) (t u v : StrandToken) (newest : Some last ≡ option_map (λ (e : Entry). e.mark) (newest_entry entries)) (same : (view_of v).notes ≡ (view_of u).notes) where
+  abbrev chain : List ℕ
+  chain = last_eight (stamps entries)
+
+  -- an access that is refused by what a question and a search found
+  pub refused_by : (x : Token) (bar : Barrier) (a : Access) → HasRead t u → IsJudgedSince b last t u (Some bar) → Refuses (token_of u) x cell last.stamp bar (one_more (tries_of (track_of u.track).tail cell)) chain a → IsJudgedBy b cell entries t v a
+  refused_by x bar (access.Value n) read h r = absurd r
+  refused_by x bar (access.Conflict k) read h r =
+      newest_and (λ m. IsRefusedBy b cell entries m t v k) (newest_entry entries) last newest (record {
+        barrier = bar;
+        judged = judged_still b last t u v (Some bar) same h;
+        told = r.0 ∙ (λ i. conflict_with cell (length (read.token i).own.nodes) last.stamp bar (one_more (tries_of (track_of (read.track i)).tail cell)) chain);
+      })

@@ -1,8 +1,10 @@
 -- Turns for which a token waited.
-use Rattle.std.specs.Prelude.{◌≡◌, ℕ, ◌<◌, ◌≤◌, true, List, [], ◌∷◌, Some}
+use Rattle.std.specs.Prelude.{◌≡◌, ◌⊎◌, ℕ, ◌+◌, ◌<◌, ◌≤◌, ◌==◌, ◌||◌, Bool, true, false, List, [], ◌∷◌, Some, if◌then◌else◌}
 use Rattle.cw_steps.specs.declared.draw.Aim.{Aim}
 use Rattle.cw_steps.specs.declared.draw.Home.{Home}
 use Rattle.cw_steps.specs.declared.draw.Home.TheVariants as home
+use Rattle.cw_steps.specs.declared.places.Place.{Place}
+use Rattle.cw_steps.specs.declared.places.Place.TheVariants.{Owner}
 use Rattle.cw_steps.specs.declared.table.StrandToken.{StrandToken}
 use Rattle.cw_steps.specs.declared.view.Change.{Change}
 use Rattle.cw_steps.specs.declared.view.WordNote.{WordNote}
@@ -12,10 +14,12 @@ use Rattle.cw_steps.specs.declared.view.View.{View}
 use Rattle.cw_steps.specs.declared.draw.Draw.TheVariants as draw
 use Rattle.cw_steps.specs.Tracks.{drawn, track_of}
 use Rattle.cw_stack.specs.Cells.{CellParts}
+use Rattle.cw_trace.specs.Columns.{ColumnTable, is_trace, used}
 use Rattle.cw_trace.specs.Labels.{AreLabels}
 use Rattle.cw_trace.specs.Touched.{TouchedAreListed}
 use Rattle.cw_trace.specs.Traces.{Traces}
 use Rattle.cw_steps.specs.Homes.{IsAsItLay}
+use Rattle.cw_steps.specs.Places.{places_of_column}
 use Rattle.cw_steps.specs.Views.{drew_view, gave_view, held_by, key_of, newest_aim, newest_cell, newest_slot, newest_used, older, view_of, with_change, CanFork, IsTierOf, IsTokenOf, TakesIt}
 use Rattle.cw_board.specs.Boards.{columns_of, IsOf}
 use Rattle.cw_log.specs.declared.board.Forked.{Forked}
@@ -81,11 +85,24 @@ IsOfTier (home.Early before used) = Unit {0}
 
 -- ## Changes of the tier
 
--- A call made `come` of the tier that lay there: the labels go in the order of the marks, and each column whose row it changed is
--- listed.
-pub record IsChanged (lay come : Traces) : Type 0 where
+-- Each column that names no trace was in use and named none before, or is one of the two of the fork.
+abbrev pub UnnamedAsBefore : (fork : ℕ) → (lay come : ColumnTable) → Type 0
+UnnamedAsBefore f c d = (i : ℕ) → i < used d → is_trace d i ≡ false → (i ≡ f) ⊎ (i ≡ f + 1) ⊎ ((i < used c) × (is_trace c i ≡ false))
+
+-- A call made, split or merged the fork, and made `come` of the tier that lay there: the labels go in the order of the marks, each
+-- column whose row it changed is listed, and only those of the fork may have ceased to name a trace.
+pub record IsChanged (fork : ℕ) (lay come : Traces) : Type 0 where
   pub labels : AreLabels come.columns come.labels
   pub touched : TouchedAreListed lay come
+  pub unnamed : UnnamedAsBefore fork lay.columns come.columns
+
+abbrev pub is_of_fork : (fork column : ℕ) → Bool
+is_of_fork f i = (i == f) || (i == f + 1)
+
+-- the words of a column's row that such a change may have changed: the owner alone, if the column is not of the fork and names no
+-- trace
+abbrev pub places_changed : (fork : ℕ) → ColumnTable → (column : ℕ) → List Place
+places_changed f c i = if is_of_fork f i || is_trace c i then places_of_column i else Owner i ∷ []
 
 -- It showed the rows of the tier `come` while it had the tier's turn, and the version is even again.
 pub record HasShown (b : Board) (come : Traces) (u u' : StrandToken) : Type 0 where

@@ -11,7 +11,7 @@ ghost use Rattle.cw_steps.specs.Tracks.{one_more, track_of, tries_of, IsReady};
 ghost use Rattle.cw_steps.specs.Views.{view_of, IsLowCell};
 ghost use Rattle.cw_board.specs.Boards.{budget_of, cells_in, IsOf};
 ghost use Rattle.cw_board.specs.Turns.{HasCell, IsHolding};
-ghost use Rattle.cw_board.specs.Victims.{attempt_refused, begin_of, conflict_with, IsRefusedAfter, Refuses};
+ghost use Rattle.cw_board.specs.Victims.{attempt_refused, begin_of, conflict_with, GivesValue, IsAskedAbout, IsJudgedBy, Refuses};
 ghost use Rattle.cw_tree.specs.AccessStacks.{stamps};
 ghost use Rattle.cw_tree.specs.Newest.{last_eight};
 
@@ -127,7 +127,8 @@ impl Board {
         requires ready { IsReady token.old.track 1 }
         ensures of { IsOf self.now token.new }
         ensures ok { IfOk result (λ a. Meets (token_of token.old) (token_of token.new) cell write a) }
-        ensures against { IfOk result (IsRefusedAfter self.now token.old token.new) }
+        ensures judged { IfOk result (IsJudgedBy self.now cell held.entries token.old token.new) }
+        ensures value { IfOk result (GivesValue held write) }
         ensures err { OnErr result (token_of token.new ≡ token_of token.old) }
         ensures word { (track_of token.new.track).word ≡ (track_of token.old.track).word }
     {
@@ -153,7 +154,7 @@ impl Board {
         requires cell { cell < cells_in self.now }
         ensures of { IsOf self.now token.new }
         ensures ok { IfOk result (λ a. Meets (token_of token.old) (token_of token.new) cell write a) }
-        ensures against { IfOk result (IsRefusedAfter self.now token.old token.new) }
+        ensures asked { IfOk result (IsAskedAbout self.now cell write token.old token.new) }
         ensures err { OnErr result (token_of token.new ≡ token_of token.old) }
         ensures word { (track_of token.new.track).word ≡ (track_of token.old.track).word }
     {

@@ -90,7 +90,9 @@ impl Board {
         requires ready { IsReady token.old.track 1 }
         ensures of { IsOf self.now token.new }
         ensures written { IsWritten write result }
+        ensures value { result ≡ unwrap_or write (entries_value held) }
         ensures token { (stamp : ℕ) × (token_of token.new ≡ made (token_of token.old) (kind_of_answer cell write result) stamp) }
+        ensures notes { (view_of token.new).notes ≡ (view_of token.old).notes }
         ensures word { (track_of token.new.track).word ≡ (track_of token.old.track).word }
     {
         let wrote = write.is_some();

@@ -11,14 +11,16 @@ ghost use Rattle.cw_steps.specs.declared.view.Slot.TheVariants as slot;
 ghost use Rattle.cw_steps.specs.Homes.{ComesHome, IsAsShown, IsForkThere, IsMergedNow, IsSplitNow, IsTooEarly};
 ghost use Rattle.cw_steps.specs.Stands.{brought_token, token_of};
 ghost use Rattle.cw_steps.specs.Tracks.{track_of, CanPart, IsReady};
-ghost use Rattle.cw_steps.specs.Views.{columns_for, key_of, newest_aim, newest_change, newest_tier, newest_used, view_of, with_more, CanFork, IsQuiet, IsTierOf};
+ghost use Rattle.cw_steps.specs.Views.{columns_for, held_by, key_of, newest_aim, newest_change, newest_tier, newest_used, stored_all, view_of, with_more, CanFork, CanStoreRow, IsQuiet, IsTierOf, IsTokenOf};
+ghost use Rattle.cw_steps.specs.Words.{row_of};
 ghost use Rattle.cw_board.specs.Boards.{budget_of, cells_in, columns_of, IsOf};
-ghost use Rattle.cw_board.specs.Turns.{AreOf, BringsNothing, HasForked, HasShown, HasTier, IsChanged, IsHolding, IsOfTier};
+ghost use Rattle.cw_board.specs.Turns as turns;
+ghost use Rattle.cw_board.specs.Turns.{places_changed, AreOf, BringsNothing, HasForked, HasShown, HasTier, IsChanged, IsHolding, IsOfTier};
 
 use crate::Board;
 use cw_base::OutOfMemory;
 use cw_log::Forked;
-use cw_steps::{Aim, Draw, Home, StrandToken};
+use cw_steps::{Aim, Draw, Home, Place, StrandToken};
 use cw_trace::{Early, Tier};
 use std::sync::Wait;
 
@@ -39,7 +41,7 @@ fn split_tier(tier: &mut Tier, fork: u32) -> Result<(), Early>
     ensures used { columns.used tier.new.columns ≡ columns.used tier.old.columns }
     ensures room { tier.new.columns.room ≡ tier.old.columns.room }
     ensures ok { OnOk result (IsSplitNow fork tier.old.columns tier.new.columns) }
-    ensures changed { OnOk result (IsChanged tier.old tier.new) }
+    ensures changed { OnOk result (IsChanged fork tier.old tier.new) }
     ensures early { IfErr result (λ e. IsTooEarly fork e.before tier.old.columns tier.new.columns) }
     ensures same { OnErr result (tier.new ≡ tier.old) }
 {
@@ -55,7 +57,7 @@ fn merge_tier(tier: &mut Tier, fork: u32) -> bool
     ensures used { columns.used tier.new.columns ≡ columns.used tier.old.columns }
     ensures room { tier.new.columns.room ≡ tier.old.columns.room }
     ensures merged { IsMergedNow fork tier.old.columns tier.new.columns }
-    ensures changed { result ≡ true → IsChanged tier.old tier.new }
+    ensures changed { result ≡ true → IsChanged fork tier.old tier.new }
     ensures same { result ≡ false → tier.new ≡ tier.old }
 {
     match split_state(tier, fork) {
@@ -74,6 +76,13 @@ fn gap_for(word: u64, gap: u32, left: u32) -> u32
     if word == 0 { gap } else { left }
 }
 
+/// Whether the column is one of the two of the fork.
+fn is_of_fork(fork: u32, column: u32) -> bool
+    ensures { result ≡ turns.is_of_fork fork column }
+{
+    column == fork || column > fork && column - fork == 1
+}
+
 impl Board {
     /// Waits for the tier's lock, and takes the tier out.
     pub(crate) fn hold_tier<R: Wait>(&self, rt: &R, token: &mut StrandToken, aim: Aim) -> Tier
@@ -89,19 +98,40 @@ impl Board {
         self.shared.take_tier(token)
     }
 
-    /// Shows the rows of a tier that was changed, to those who read them without its lock. The version is odd while the rows that the
-    /// change touched are stored.
-    fn show_tier(&self, token: &mut StrandToken, tier: &Tier)
+    /// Stores the words of a column's row that the change at `fork` may have changed.
+    fn show_column(&self, token: &mut StrandToken, tier: &Tier, fork: u32, column: u32)
+        requires table { IsTokenOf self.now.shared token.old }
+        requires fits { CanStoreRow (key_of self.now.shared) (view_of token.old) column (row_of tier.now column) }
+        requires used { column < columns.used tier.now.columns }
+        ensures table { IsTokenOf self.now.shared token.new }
+        ensures view { view_of token.new ≡ stored_all (cells_in self.now) (columns_of self.now) (places_changed fork tier.now.columns column) (view_of token.old) }
+        ensures slots { held_by token.new ≡ held_by token.old }
+        ensures track { token.new.track ≡ token.old.track }
+        ensures stop { token.new.stop ≡ token.old.stop }
+        ensures token { token_of token.new ≡ token_of token.old }
+    {
+        let row = tier.row(column);
+        if is_of_fork(fork, column) || tier.is_trace(column) {
+            self.shared.store_row(token, column, &row);
+        } else {
+            self.shared
+                .store(token, Place::Owner(column), row.owner as u64);
+        }
+    }
+
+    /// Shows a tier that was changed at `fork`, to those who read its rows without its lock. The version is odd while the words that
+    /// changed are stored.
+    fn show_tier(&self, token: &mut StrandToken, tier: &Tier, fork: u32)
         requires held { (t : StrandToken) × (y : Slot) × IsHolding self.now (cells_in self.now) y t token.old }
         requires quiet { IsQuiet (view_of token.old) }
         requires few { columns.used tier.now.columns ≤ columns_of self.now }
-        requires changed { (lay : Traces) × (newest_tier (view_of token.old).turns ≡ Some lay) × IsChanged lay tier.now }
+        requires changed { (lay : Traces) × (newest_tier (view_of token.old).turns ≡ Some lay) × IsChanged fork lay tier.now }
         ensures shown { HasShown self.now tier.now token.old token.new }
     {
         let touched = tier.touched();
         self.shared.version_odd(token, tier);
         for column in touched {
-            self.shared.store_row(token, *column, &tier.row(*column));
+            self.show_column(token, tier, fork, *column);
         }
         self.shared.version_even(token);
     }
@@ -121,18 +151,18 @@ impl Board {
         self.shared.give(token, place, home);
     }
 
-    /// Shows a change of the tier, puts the tier back and releases its lock.
-    fn leave_changed(&self, token: &mut StrandToken, tier: Tier, home: Home)
+    /// Shows a change of the tier at `fork`, puts the tier back and releases its lock.
+    fn leave_changed(&self, token: &mut StrandToken, tier: Tier, fork: u32, home: Home)
         requires held { (t : StrandToken) × (y : Slot) × IsHolding self.now (cells_in self.now) y t token.old }
         requires quiet { IsQuiet (view_of token.old) }
         requires tier { HasTier self.now (slot.Tier tier) token.old }
-        requires changed { (lay : Traces) × (newest_tier (view_of token.old).turns ≡ Some lay) × IsChanged lay tier }
+        requires changed { (lay : Traces) × (newest_tier (view_of token.old).turns ≡ Some lay) × IsChanged fork lay tier }
         requires home { IsOfTier home }
         requires brings { ComesHome (view_of token.old).fork (view_of token.old).phase (newest_aim (view_of token.old).turns) home (newest_tier (view_of token.old).turns) (slot.Tier tier) }
         ensures of { IsOf self.now token.new }
         ensures token { token_of token.new ≡ brought_token home (token_of token.old) }
     {
-        self.show_tier(token, &tier);
+        self.show_tier(token, &tier, fork);
         self.leave_tier(token, tier, home);
     }
 
@@ -150,7 +180,7 @@ impl Board {
         match split_tier(&mut tier, fork) {
             Ok(()) => {
                 let used = tier.used();
-                self.leave_changed(token, tier, Home::Split { fork, used });
+                self.leave_changed(token, tier, fork, Home::Split { fork, used });
                 Ok(())
             }
             Err(Early { before }) => {
@@ -174,7 +204,7 @@ impl Board {
         let used = tier.used();
         let home = Home::Merge { fork, used };
         if merged {
-            self.leave_changed(token, tier, home);
+            self.leave_changed(token, tier, fork, home);
         } else {
             self.leave_tier(token, tier, home);
         }
@@ -220,7 +250,7 @@ impl Board {
         requires held { (t : StrandToken) × (y : Slot) × IsHolding self.now (cells_in self.now) y t token }
         requires aim { newest_aim (view_of token).turns ≡ aims.Fork }
         requires quiet { IsQuiet (view_of token) }
-        requires forked { (lay : Traces) × (newest_tier (view_of token).turns ≡ Some lay) × (tier.columns ≡ columns.forked (view_of token).word (view_of token).column lay.columns) × IsChanged lay tier }
+        requires forked { (lay : Traces) × (newest_tier (view_of token).turns ≡ Some lay) × (tier.columns ≡ columns.forked (view_of token).word (view_of token).column lay.columns) × IsChanged left lay tier }
         requires columns { (left ≡ newest_used (view_of token).turns) × (left + 2 ≤ columns_of self.now) × ((view_of token).gap < left) }
         requires tier { IsTierOf (columns_of self.now) (left + 2) (slot.Tier tier) }
         requires ready { IsReady token.track 3 × CanPart token.track }
@@ -229,7 +259,7 @@ impl Board {
     {
         let gap = gap_for(token.word(), token.gap(), left);
         let mut token = token;
-        self.show_tier(&mut token, &tier);
+        self.show_tier(&mut token, &tier, left);
         self.make_fork(&mut token, tier, Home::Plain, left, left + 1, gap);
         let right = self.shared.split_seat(&mut token, false);
         Forked::Two {

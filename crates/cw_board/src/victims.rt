@@ -1,10 +1,10 @@
 //! What stands in the way of an access, and which block has to fall for it.
-ghost use Rattle.std.specs.Prelude.{◌≡◌, ◌<◌, Contains, IfOk, IfSome, length, slice_get, Some};
+ghost use Rattle.std.specs.Prelude.{◌≡◌, ◌<◌, Contains, IfErr, IfOk, IfSome, length, slice_get, Some};
 ghost use Rattle.cw_steps.specs.Stands.{token_of};
 ghost use Rattle.cw_steps.specs.Views.{view_of, IsTokenOf};
-ghost use Rattle.cw_board.specs.Asked.{noted_since, HasRead, ToldBy};
+ghost use Rattle.cw_board.specs.Asked.{noted_since, HasMoved, HasRead, ToldBy};
 ghost use Rattle.cw_board.specs.Boards.{cells_in, columns_of};
-ghost use Rattle.cw_board.specs.Victims.{outermost_first, IsBarrier, IsBarrierAmong, IsSearched, IsVictim};
+ghost use Rattle.cw_board.specs.Victims.{outermost_first, HasMovedSince, IsJudged, IsJudgedSince, IsSearched, IsVictim};
 
 use crate::Board;
 use crate::asking::{Moved, settled};
@@ -75,6 +75,7 @@ impl Board {
         requires table { IsTokenOf self.now.shared token.old }
         ensures read { HasRead token.old token.new }
         ensures found { IfOk result (IsSearched (cells_in self.now) (columns_of self.now) last (outermost_first token.old) (view_of token.old).notes (view_of token.new).notes) }
+        ensures moved { IfErr result (HasMoved (cells_in self.now) (view_of token.old).notes (view_of token.new).notes) }
         ensures around { IfOk result (λ o. IfSome o (λ a. Contains (token_of token.old).around a.begin)) }
     {
         let before = self.version(token, looks);
@@ -94,7 +95,8 @@ impl Board {
         requires compares { (blanks.1.name ≡ L.name) × (blanks.1.parts ≡ L.parts) × (0 < L.parts) }
         requires table { IsTokenOf self.now.shared token.old }
         ensures read { HasRead token.old token.new }
-        ensures found { IfOk result (λ o. IfSome o (λ x. IsBarrier self.now last token.old (view_of token.old).notes (view_of token.new).notes x.block x.victim)) }
+        ensures judged { IfOk result (IsJudged self.now last token.old (view_of token.old).notes (view_of token.new).notes) }
+        ensures moved { IfErr result (HasMovedSince (cells_in self.now) (view_of token.old).notes (view_of token.new).notes) }
     {
         let mut looks = Steps::<K>::new(blanks.0);
         let mut compares = Steps::<L>::new(blanks.1);
@@ -107,8 +109,8 @@ impl Board {
         }
     }
 
-    /// Returns what stands in the way of the token's next access, after the access `last`, or `None`. Returns `Moved` if the tier was
-    /// changing. Takes no lock.
+    /// Returns what stands in the way of the token's next access, after the access `last`, or `None` if the question lets it through.
+    /// Returns `Moved` if the tier was changing. Takes no lock.
     pub(crate) fn judge(
         &self,
         token: &mut StrandToken,
@@ -116,7 +118,8 @@ impl Board {
     ) -> Result<Option<Barrier>, Moved>
         requires table { IsTokenOf self.now.shared token.old }
         ensures read { HasRead token.old token.new }
-        ensures found { IfOk result (λ o. IfSome o (λ x. IsBarrier self.now last token.old (view_of token.old).notes (view_of token.new).notes x.block x.victim)) }
+        ensures judged { IfOk result (IsJudged self.now last token.old (view_of token.old).notes (view_of token.new).notes) }
+        ensures moved { IfErr result (HasMovedSince (cells_in self.now) (view_of token.old).notes (view_of token.new).notes) }
     {
         let blanks = (Blank::new(1), Blank::new(1));
         self.judge_counted::<Brand, Brand>(blanks, token, last)
@@ -132,7 +135,7 @@ impl Board {
     ) -> Option<Barrier>
         requires table { IsTokenOf self.now.shared token.old }
         ensures read { HasRead token.old token.new }
-        ensures found { IfSome result (λ x. IsBarrierAmong self.now last token.old (noted_since token.old token.new) x.block x.victim) }
+        ensures judged { IsJudgedSince self.now last token.old token.new result }
     {
         let mut tries = 0;
         for _ in rt.forever() {

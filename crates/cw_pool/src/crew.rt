@@ -2,7 +2,7 @@
 ghost use Rattle.std.specs.Thread.{IsSend, IsSync};
 
 use crate::boxes::{Boxes, Task, TaskBox};
-use crate::worker::{Common, Worker};
+use crate::worker::{Common, OtherWorker, Worker};
 use crate::{Memo, RunName};
 use crossbeam_utils::CachePadded;
 use cw_base::OutOfMemory;
@@ -52,8 +52,9 @@ fn connect<B: SharedBoard, J: RunName>(crew: &mut [Worker<B, J>]) -> Result<(), 
     for mine in 0..count {
         for step in 1..count {
             let theirs = (mine + step) % count;
+            let number = crew[theirs].number;
             let thief = thief_of(&mut crew[theirs])?;
-            crew[mine].others.push(thief)?;
+            crew[mine].others.push(OtherWorker { number, thief })?;
         }
     }
     Ok(())

@@ -25,6 +25,7 @@ mod recording;
 mod scene;
 mod sides;
 mod splits;
+mod tally;
 mod task;
 mod turns;
 mod worker;

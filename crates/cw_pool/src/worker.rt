@@ -8,6 +8,7 @@ use crate::joins::{join_stolen, take_back_task};
 use crate::moves::{check_stop, halt_out_of_memory, run_to_want};
 use crate::sides::{left_number, right_number};
 use crate::splits::try_split;
+use crate::tally::Tally;
 use crate::turns::{go_back, step};
 use crate::{Ended, Memo, Mode, RunName, Running, Scene};
 use crossbeam_utils::CachePadded;
@@ -22,6 +23,12 @@ use std::sync::{Mutex, Wait};
 use std::thread;
 use std::thread::Threads;
 
+/// The fewest spins that a thief waits for, about 15 microseconds.
+const LEAST_SPINS: u64 = 500;
+
+/// The most spins that a thief waits for, about half a millisecond.
+const MOST_SPINS: u64 = 16_000;
+
 /// What all workers of a run share.
 #[derive(Drop)]
 pub(crate) struct Common<'a, B: SharedBoard, J: RunName, G: Gate> {
@@ -29,6 +36,8 @@ pub(crate) struct Common<'a, B: SharedBoard, J: RunName, G: Gate> {
     pub(crate) gate: &'a G,
     /// The frames of each worker's forks.
     pub(crate) frames: Vec<Frames<B, J>>,
+    /// What each worker tells of its deque.
+    pub(crate) tallies: Vec<CachePadded<Tally>>,
     pub(crate) end: Mutex<Option<Ended<B, J>>>,
     /// Not 0 once the run has ended.
     pub(crate) over: AtomicU64,
@@ -40,6 +49,22 @@ impl<'a, B: SharedBoard, J: RunName, G: Gate> Common<'a, B, J, G> {
         self.frames
             .get((number / NUMBERS) as usize)?
             .at(number % NUMBERS)
+    }
+
+    /// Returns what the worker of this number tells of its deque.
+    fn tally(&self, worker: u32) -> Option<&Tally> {
+        let tally: &Tally = self.tallies.get(worker as usize)?;
+        Some(tally)
+    }
+
+    /// Returns for how many spins a task has to be at the front of a deque before it is stolen. A steal costs a split and a merge,
+    /// which grow with the forks that the run has made.
+    fn patience(&self) -> u64 {
+        let mut spins: u64 = LEAST_SPINS;
+        for tally in self.tallies.iter() {
+            spins = spins.saturating_add(tally.added());
+        }
+        spins.min(MOST_SPINS)
     }
 
     fn is_over(&self) -> bool {
@@ -57,11 +82,18 @@ pub(crate) fn never<R: Wait, T>(rt: &R) -> T
     unreachable!()
 }
 
+/// Another worker, from which this one may steal.
+#[derive(Drop)]
+pub(crate) struct OtherWorker<B: SharedBoard, J: RunName> {
+    pub(crate) number: u32,
+    pub(crate) thief: Thief<TaskBox<B, J>>,
+}
+
 #[derive(Drop)]
 pub(crate) struct Worker<B: SharedBoard, J: RunName> {
     pub(crate) number: u32,
     pub(crate) boxes: CachePadded<Boxes<B, J>>,
-    pub(crate) others: Vec<Thief<TaskBox<B, J>>>,
+    pub(crate) others: Vec<OtherWorker<B, J>>,
     pub(crate) source: Source<Memo<B::Token>, J>,
 }
 
@@ -148,10 +180,13 @@ impl<B: SharedBoard, J: RunName> Worker<B, J> {
         };
         let (now, waiting) = fork(rt, scene, source, now);
         match waiting {
-            Some(right) => boxes.push(Task {
-                home: empty,
-                now: right,
-            }),
+            Some(right) => {
+                note_added(common, *number);
+                boxes.push(Task {
+                    home: empty,
+                    now: right,
+                });
+            }
             None => {
                 drop(waiting);
                 boxes.recycle(empty);
@@ -195,7 +230,10 @@ impl<B: SharedBoard, J: RunName> Worker<B, J> {
         let boxes: &mut Boxes<B, J> = &mut self.boxes;
         let newest = boxes.pop();
         match newest {
-            Some(waiting) => self.take_back_right(rt, common, task, waiting),
+            Some(waiting) => {
+                note_removed(common, self.number);
+                self.take_back_right(rt, common, task, waiting)
+            }
             None => {
                 drop(newest);
                 let number = left_number(&task.now);
@@ -307,11 +345,32 @@ impl<B: SharedBoard, J: RunName> Worker<B, J> {
     ) -> Option<Task<B, J>> {
         for other in self.others.iter_mut() {
             common.gate.at(rt, self.number, Point::Steal);
-            if let Some(full) = other.steal(rt) {
+            let Some(tally) = common.tally(other.number) else {
+                continue;
+            };
+            if !tally.has_waited(common.patience()) {
+                continue;
+            }
+            if let Some(full) = other.thief.steal(rt) {
+                tally.steal();
                 return take_up(full);
             }
         }
         None
+    }
+}
+
+/// Notes that the worker is about to let a task wait in its deque.
+fn note_added<B: SharedBoard, J: RunName, G: Gate>(common: &Common<'_, B, J, G>, worker: u32) {
+    if let Some(tally) = common.tally(worker) {
+        tally.add();
+    }
+}
+
+/// Notes that the worker has taken a task back.
+fn note_removed<B: SharedBoard, J: RunName, G: Gate>(common: &Common<'_, B, J, G>, worker: u32) {
+    if let Some(tally) = common.tally(worker) {
+        tally.remove();
     }
 }
 

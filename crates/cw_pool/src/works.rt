@@ -11,8 +11,10 @@ ghost use Rattle.cw_pool.specs.Tasks.{IsRun};
 use crate::boxes::{Task, TaskBox, empty_box};
 use crate::crew::{Crew, make_workers, run_workers};
 use crate::frames::Frames;
+use crate::tally::Tally;
 use crate::worker::{Common, never};
 use crate::{Base, Ended, Memo, Mode, RunName, Running, Scene};
+use crossbeam_utils::CachePadded;
 use cw_base::OutOfMemory;
 use cw_body::Body;
 use cw_code::{Limits, Program};
@@ -32,6 +34,7 @@ struct Ready<B: SharedBoard, J: RunName> {
     crew: Crew<B, J>,
     /// The frames of each worker's forks.
     frames: Vec<Frames<B, J>>,
+    tallies: Vec<CachePadded<Tally>>,
     /// The box for the task of main.
     home: TaskBox<B, J>,
 }
@@ -48,6 +51,14 @@ fn all_frames<B: SharedBoard, J: RunName>(
     Ok(all)
 }
 
+fn all_tallies(alloc: Global, workers: u32) -> Result<Vec<CachePadded<Tally>>, OutOfMemory> {
+    let mut all = Vec::new(alloc);
+    for _ in 0..workers {
+        all.push(CachePadded::new(Tally::new()))?;
+    }
+    Ok(all)
+}
+
 fn make_ready<B: SharedBoard, J: RunName>(
     alloc: Global,
     workers: u32,
@@ -58,6 +69,7 @@ fn make_ready<B: SharedBoard, J: RunName>(
     Ok(Ready {
         crew: make_workers(alloc, workers, pairs, source)?,
         frames: all_frames(alloc, workers, strands)?,
+        tallies: all_tallies(alloc, workers)?,
         home: empty_box(alloc)?,
     })
 }
@@ -134,19 +146,31 @@ fn work_in<'x, B: SharedBoard, J: RunName, G: Gate, R: Threads + Wait + Sync>(
         drop(body);
         return halt_before_start(scene.board, root);
     };
-    let Ready { crew, frames, home } = ready;
+    let Ready {
+        crew,
+        frames,
+        tallies,
+        home,
+    } = ready;
     let now = main_strand::<B, J>(scene.alloc, root, body);
     let board = scene.board;
     let common = Common {
         scene,
         gate,
         frames,
+        tallies,
         end: Mutex::new(None),
         over: AtomicU64::new(0),
     };
     run_workers(rt, &common, crew, Task { home, now });
-    let Common { frames, end, .. } = common;
+    let Common {
+        frames,
+        tallies,
+        end,
+        ..
+    } = common;
     drop(frames);
+    drop(tallies);
     let end = end.into_inner();
     match end {
         Some(ended) => check_end(board, ended),

@@ -390,7 +390,7 @@ abbrev pub gave_view : Home → View → View
 gave_view h v = record v { gap = gap_home h v.column v.gap; split = split_home h v.split; phase = phase_home h v.phase; turns = older v.turns }
 
 -- ## Changes of the tier
--- Whoever has the tier's turn makes the version odd, stores the rows that a change touches, and makes it even.
+-- Whoever has the tier's turn makes the version odd, stores the words that a change touches, and makes it even.
 
 abbrev pub with_change : Option Change → List Turn → List Turn
 with_change o [] = []
@@ -449,7 +449,7 @@ stored_all cells columns (p ∷ ps) v = stored_all cells columns ps (stored_view
 abbrev pub stored_row : Key → (column : ℕ) → View → View
 stored_row key i v = stored_all (cells_of key) key.columns (places_of_column i) v
 
--- a change may end: each row that it touches was stored
+-- a change may end: each word that it changes was stored
 pub record CanMakeEven (key : Key) (v : View) : Type 0 where
   pub under_way : IsUnderWay key v
   pub lay : Traces
@@ -588,15 +588,18 @@ told st me n me' = me' ≡ (told_view st.word n me.0, me.1)
 abbrev pub found : Step Slot → Me Slot View → ℕ → Me Slot View → Type 0
 found st me n me' = me' ≡ (noted_view st.word n me.0, me.1)
 
-abbrev pub made_odd : (come : Traces) → Step Slot → Me Slot View → ℕ → Me Slot View → Type 0
-made_odd come st me n me' = me' ≡ (odd_view come me.0, me.1)
+-- the operand is 1, and the word that of the version
+abbrev pub made_odd : (word : ℕ) → (come : Traces) → Step Slot → Me Slot View → ℕ → Me Slot View → Type 0
+made_odd word come st me n me' = (st.word ≡ word) × (st.first ≡ 1) × (me' ≡ (odd_view come me.0, me.1))
 
-abbrev pub stored : Step Slot → Me Slot View → ℕ → Me Slot View → Type 0
-stored st me n me' = me' ≡ (stored_view st.word me.0, me.1)
+-- The value is stored at the word. Only a plain store knows its number ahead.
+abbrev pub stored : (word value : ℕ) → Step Slot → Me Slot View → ℕ → Me Slot View → Type 0
+stored word value st me n me' = (st.word ≡ word) × (st.first ≡ value) × (n ≡ value) × (me' ≡ (stored_view word me.0, me.1))
 
-abbrev pub evened : Step Slot → Me Slot View → ℕ → Me Slot View → Type 0
-evened st me n me' = me' ≡ (even_view me.0, me.1)
+-- the operand is 1 here, too
+abbrev pub evened : (word : ℕ) → Step Slot → Me Slot View → ℕ → Me Slot View → Type 0
+evened word st me n me' = (st.word ≡ word) × (st.first ≡ 1) × (me' ≡ (even_view me.0, me.1))
 
--- it owns fewer than 2 ^ 31 columns
+-- The clock was looked at. The seat owns fewer than 2 ^ 31 columns.
 abbrev pub weighed : Step Slot → Me Slot View → ℕ → Me Slot View → Type 0
-weighed st me n me' = (me.0.owns < 2 ^ 31) × (me' ≡ me)
+weighed st me n me' = (st.word ≡ 0) × (me.0.owns < 2 ^ 31) × (me' ≡ me)

@@ -1,5 +1,5 @@
 -- What the words of columns hold, and when a change of the tier is shown.
-use Rattle.std.specs.Prelude.{◌≡◌, ◌⊎◌, ℕ, suc, ◌<◌, All, Contains, List, Option, Some, None}
+use Rattle.std.specs.Prelude.{◌≡◌, ◌⊎◌, ℕ, suc, ◌<◌, All, Contains, Option, Some, None}
 use Rattle.cw_trace.specs.declared.tier.Row.{Row}
 use Rattle.cw_trace.specs.Columns as columns
 use Rattle.cw_trace.specs.Labels.{full_row}
@@ -27,17 +27,24 @@ IsInRow i r (Closing j) n = (j ≡ i) × (n ≡ r.closing)
 IsInRow i r (Gap j) n = ⊥
 IsInRow i r Version n = ⊥
 
--- the column was in use by the tier that lay there, with the same row
-abbrev pub IsUntouched : (lay come : Traces) → (column : ℕ) → Type 0
-IsUntouched lay come i = (i < columns.used lay.columns) × (row_of come i ≡ row_of lay i)
+-- the value that a row has for the word at a place of it
+abbrev pub row_value : Row → Place → ℕ
+row_value r (Owner j) = r.owner
+row_value r (Lead j) = as_word r.lead
+row_value r (Up j) = as_word r.up
+row_value r (Opening j) = r.opening
+row_value r (Closing j) = r.closing
+row_value r (Gap j) = 0
+row_value r Version = 0
 
--- each word of the column's row is among the words that were stored
-abbrev pub HasStored : (cells columns : ℕ) → (stored : List ℕ) → (column : ℕ) → Type 0
-HasStored cells columns stored i = All (λ (p : Place). Contains stored (word_of_place cells columns p)) (places_of_column i)
+-- the column was in use by the tier that lay there, and the word at this place of its row had the same value
+abbrev pub IsUntouched : (lay come : Traces) → (column : ℕ) → Place → Type 0
+IsUntouched lay come i p = (i < columns.used lay.columns) × (row_value (row_of come i) p ≡ row_value (row_of lay i) p)
 
--- each column in use of the tier that comes was stored, or did not change
+-- each word of the row of each column in use of the tier that comes was stored, or did not change
 abbrev pub IsStored : (cells limit : ℕ) → (lay : Traces) → Change → Type 0
-IsStored cells limit lay ch = (i : ℕ) → i < columns.used ch.come.columns → HasStored cells limit ch.stored i ⊎ IsUntouched lay ch.come i
+IsStored cells limit lay ch = (i : ℕ) → i < columns.used ch.come.columns
+    → All (λ (p : Place). Contains ch.stored (word_of_place cells limit p) ⊎ IsUntouched lay ch.come i p) (places_of_column i)
 
 -- both tiers show the same words
 pub record AreSameRows (x y : Traces) : Type 0 where

@@ -187,9 +187,12 @@ impl Play<Slot, View> for Tells {
     ghost then = { told };
 }
 
-/// The tier that a change makes. Each call picks it.
+/// The word of the version, and the tier that a change makes. Each call picks them.
 pub(crate) trait Changing {
+    ghost use Rattle.std.specs.Prelude.{ℕ};
     ghost use Rattle.cw_trace.specs.Traces.{Traces};
+
+    ghost word: { ℕ };
 
     ghost come: { Traces };
 }
@@ -197,6 +200,8 @@ pub(crate) trait Changing {
 impl Changing for Brand {
     ghost use Rattle.std.specs.Prelude.{[]};
     ghost use Rattle.cw_trace.specs.Columns.{first_tier};
+
+    ghost word = { 0 };
 
     ghost come = { record { columns = first_tier 0; labels = []; touched = [] } };
 }
@@ -208,25 +213,53 @@ pub struct MakesOdd<W> {
 impl<W: Changing> Play<Slot, View> for MakesOdd<W> {
     ghost use Rattle.cw_steps.specs.Views.{made_odd};
 
-    ghost then = { made_odd W.come };
+    ghost then = { made_odd W.word W.come };
 }
 
-/// A word of a column is written.
-pub struct Stores;
+/// Which word of a column is written, and with which value. Each call picks it.
+pub(crate) trait Storing {
+    ghost use Rattle.std.specs.Prelude.{ℕ};
 
-impl Play<Slot, View> for Stores {
+    ghost word: { ℕ };
+
+    ghost value: { ℕ };
+}
+
+impl Storing for Brand {
+    ghost word = { 0 };
+
+    ghost value = { 0 };
+}
+
+pub struct Stores<W> {
+    of: PhantomData<W>,
+}
+
+impl<W: Storing> Play<Slot, View> for Stores<W> {
     ghost use Rattle.cw_steps.specs.Views.{stored};
 
-    ghost then = { stored };
+    ghost then = { stored W.word W.value };
 }
 
-/// The version is made even.
-pub struct Evens;
+/// The word of the version that is made even. Each call picks it.
+pub(crate) trait Evening {
+    ghost use Rattle.std.specs.Prelude.{ℕ};
 
-impl Play<Slot, View> for Evens {
+    ghost word: { ℕ };
+}
+
+impl Evening for Brand {
+    ghost word = { 0 };
+}
+
+pub struct Evens<W> {
+    of: PhantomData<W>,
+}
+
+impl<W: Evening> Play<Slot, View> for Evens<W> {
     ghost use Rattle.cw_steps.specs.Views.{evened};
 
-    ghost then = { evened };
+    ghost then = { evened W.word };
 }
 
 /// A look at a gap word, at a word of a column or at the version.

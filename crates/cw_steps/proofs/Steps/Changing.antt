@@ -55,33 +55,33 @@ is_even [] = refl
 is_even (t ∷ ts) = refl
 
 module _ (key : Key) (slots id : ℕ) (me : Me Slot View) (i : ℕ) (beyond : cells_of key + 2 < i) where
-  pub makes_odd : (come : Traces) → Allows (Holds key) slots id me i (λ n. (n + 1) % 2 ^ 64) (λ n. made_odd come (step slots i 1 0 none) me n)
-  makes_odd come s h deep at bound =
+  pub makes_odd : (word : ℕ) → i ≡ word → (come : Traces) → (up : ℕ) → up ≡ 1 → Allows (Holds key) slots id me i (λ n. (n + up) % 2 ^ 64) (λ n. made_odd word come (step slots i up 0 none) me n)
+  makes_odd word there come up one s h deep at bound =
       let change : Change = record { come = come; stored = []; even = false } in (
         odd_view come me.0,
         keeps,
         tt,
-        change_rule (λ p. Some change) key s h id me.0 at i ((slice_index s.words i + 1) % 2 ^ 64) beyond (with_change (Some change) me.0.turns)
+        change_rule (λ p. Some change) key s h id me.0 at i ((slice_index s.words i + up) % 2 ^ 64) beyond (with_change (Some change) me.0.turns)
             (is_odd (Some change) me.0.turns) me.1,
-        refl,
+        (there, one, refl),
       )
 
-  pub stores : (x : ℕ) → Allows (Holds key) slots id me i (λ n. x) (λ n. stored (step slots i x 0 none) me x)
-  stores x s h deep at bound = (
-    stored_view i me.0,
+  pub stores : (word value : ℕ) → i ≡ word → (x : ℕ) → x ≡ value → Allows (Holds key) slots id me i (λ n. x) (λ n. stored word value (step slots i x 0 none) me x)
+  stores word value there x same s h deep at bound = (
+    stored_view word me.0,
     keeps,
     tt,
-    change_rule (stored_in i) key s h id me.0 at i x beyond (with_stored i me.0.turns) (is_stored i me.0.turns) me.1,
-    refl,
+    change_rule (stored_in word) key s h id me.0 at i x beyond (with_stored word me.0.turns) (is_stored word me.0.turns) me.1,
+    (there, same, same, refl),
   )
 
-  pub makes_even : Allows (Holds key) slots id me i (λ n. (n + 1) % 2 ^ 64) (λ n. evened (step slots i 1 0 none) me n)
-  makes_even s h deep at bound = (
+  pub makes_even : (word : ℕ) → i ≡ word → (up : ℕ) → up ≡ 1 → Allows (Holds key) slots id me i (λ n. (n + up) % 2 ^ 64) (λ n. evened word (step slots i up 0 none) me n)
+  makes_even word there up one s h deep at bound = (
     even_view me.0,
     keeps,
     tt,
-    change_rule made_even key s h id me.0 at i ((slice_index s.words i + 1) % 2 ^ 64) beyond (with_even me.0.turns) (is_even me.0.turns) me.1,
-    refl,
+    change_rule made_even key s h id me.0 at i ((slice_index s.words i + up) % 2 ^ 64) beyond (with_even me.0.turns) (is_even me.0.turns) me.1,
+    (there, one, refl),
   )
 
 -- ## One store after another

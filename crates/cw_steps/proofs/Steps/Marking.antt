@@ -101,7 +101,7 @@ module _ (key : Key) (id : ℕ) (me : Me Slot View) (i : ℕ) (beyond : cells_of
 
 -- a look at the clock tells that few columns are owned
 pub weighs : (key : Key) (slots id : ℕ) (me : Me Slot View) → Allows (Holds key) slots id me 0 (λ n. n) (weighed (step slots 0 0 0 none) me)
-weighs key slots id me s h deep at bound = (me.0, keeps, tt, subst (Holds key) same h, (omega (arith, part, h.clock.owned, h.tiers.few, h.small), refl)) where
+weighs key slots id me s h deep at bound = (me.0, keeps, tt, subst (Holds key) same h, (refl, omega (arith, part, h.clock.owned, h.tiers.few, h.small), refl)) where
   part : me.0.owns ≤ total (λ z. z.owns) s.views
   part = total_part (λ z. z.owns) s.views id me.0 at
 

@@ -5,7 +5,8 @@ use Rattle.cw_tree.specs.Journals.{FitsCells}
 use Rattle.cw_record.specs.Coherent.{IsMemory}
 use Rattle.cw_sheet.specs.Contents.{contents_of}
 use Rattle.cw_audit.specs.Parts.{first_values}
-use Rattle.cw_audit.specs.Audits.{stamps, accesses, refusals, strands, cancels, order, HoldBefore}
+use Rattle.cw_audit.specs.Audits.{stamps, accesses, blocks, refusals, strands, cancels, order, HoldBefore}
+use Rattle.cw_audit.specs.Naming.{HoldSoFar}
 use Rattle.cw_audit.proofs.PartByPart.{by_number, asked}
 use Rattle.cw_audit.proofs.auditing.part_holds.Goals as goal
 
@@ -41,6 +42,17 @@ cancels_hold-requires-clause-cells c =
     let first : first_values (contents_of sheet) ≡ c.as_slice-first.result.now = sym (c.as_slice-first.ensures.value ∙ c.requires.work.first) in
     let cells : FitsCells sheet.tree (length (first_values (contents_of sheet))) = (c.requires.before accesses (omega (arith, c.in-7.is))).cells in
     subst (FitsCells sheet.tree) (ap length first) cells
+
+pub cancels_hold-requires-clause-before : goal.cancels_hold-requires-clause-before
+cancels_hold-requires-clause-before c =
+    let sheet = c.args.sheet.now in
+    let first : first_values (contents_of sheet) ≡ c.as_slice-first.result.now = sym (c.as_slice-first.ensures.value ∙ c.requires.work.first) in
+    let held : HoldSoFar sheet.tree (first_values (contents_of sheet)) = record {
+      stamps = c.requires.before stamps (omega (arith, c.in-7.is));
+      reads = (c.requires.before accesses (omega (arith, c.in-7.is))).reads;
+      ended = c.requires.before blocks (omega (arith, c.in-7.is));
+    } in
+    subst (HoldSoFar sheet.tree) first held
 
 pub order_holds-requires-clause-before : goal.order_holds-requires-clause-before
 order_holds-requires-clause-before c =

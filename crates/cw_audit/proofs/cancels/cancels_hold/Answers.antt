@@ -5,4 +5,4 @@ use Rattle.cw_audit.proofs.cancels.cancels_hold.Goals as goal
 
 pub all_hold-requires-clause-len : goal.all_hold-requires-clause-len
 all_hold-requires-clause-len c =
-    ap length (c.as_slice.ensures.value ∙ c.in_ok-journals.ensures) ∙ length_map_below (live_accesses c.args.tree.now) (length c.args.first.now)
+    ap length (c.as_slice-journals.ensures.value ∙ c.in_ok-survey.ensures.journals) ∙ length_map_below (live_accesses c.args.tree.now) (length c.args.first.now)
