@@ -1,9 +1,8 @@
 //! What a worker tells of its deque, so that a thief can see whether the task at the front has waited there.
-use std::hint;
 use std::sync::atomic::{AtomicU64, Ordering};
 
-/// How many tasks wait in a worker's deque, a number that rises when another task comes to its front, and how many tasks the worker
-/// has added.
+/// How many tasks wait in a worker's deque, a number that rises when the time of the task at its front begins anew, and how many tasks
+/// the worker has added.
 #[derive(Drop)]
 pub(crate) struct Tally {
     waiting: AtomicU64,
@@ -41,18 +40,21 @@ impl Tally {
     /// Notes that a thief has taken the task at the front.
     pub(crate) fn steal(&self) {
         self.waiting.fetch_sub(1, Ordering::SeqCst);
+        self.begin_anew();
+    }
+
+    /// Lets the time of the task at the front begin anew.
+    pub(crate) fn begin_anew(&self) {
         self.fronts.fetch_add(1, Ordering::SeqCst);
     }
 
-    /// Whether the same task is at the front for this number of spins.
-    pub(crate) fn has_waited(&self, spins: u64) -> bool {
+    /// Returns the number of the task at the front, or `None` if no task waits.
+    pub(crate) fn front(&self) -> Option<u64> {
+        let front = self.fronts.load(Ordering::SeqCst);
         if self.waiting.load(Ordering::SeqCst) == 0 {
-            return false;
+            None
+        } else {
+            Some(front)
         }
-        let before = self.fronts.load(Ordering::SeqCst);
-        for _ in 0..spins {
-            hint::spin_loop();
-        }
-        self.fronts.load(Ordering::SeqCst) == before && self.waiting.load(Ordering::SeqCst) != 0
     }
 }

@@ -23,11 +23,14 @@ use std::sync::{Mutex, Wait};
 use std::thread;
 use std::thread::Threads;
 
-/// The fewest spins that a thief waits for, about 15 microseconds.
-const LEAST_SPINS: u64 = 500;
+/// The fewest rounds that a thief waits for, about four microseconds.
+const LEAST_ROUNDS: u64 = 10_000;
 
-/// The most spins that a thief waits for, about half a millisecond.
-const MOST_SPINS: u64 = 16_000;
+/// How many rounds a thief waits for each fork that the run has made, about 25 nanoseconds: as long as a split needs for a column.
+const ROUNDS_FOR_FORK: u64 = 64;
+
+/// The most rounds that a thief waits for, about 40 milliseconds.
+const MOST_ROUNDS: u64 = 100_000_000;
 
 /// What all workers of a run share.
 #[derive(Drop)]
@@ -57,14 +60,31 @@ impl<'a, B: SharedBoard, J: RunName, G: Gate> Common<'a, B, J, G> {
         Some(tally)
     }
 
-    /// Returns for how many spins a task has to be at the front of a deque before it is stolen. A steal costs a split and a merge,
-    /// which grow with the forks that the run has made.
+    /// Returns for how many rounds a task has to be at the front of a deque before it is stolen. A steal costs a split and a merge,
+    /// which grow with the forks that the run has made, and others wait for them. So a thief waits about as long as a split takes,
+    /// and the others have as much time as it.
     fn patience(&self) -> u64 {
-        let mut spins: u64 = LEAST_SPINS;
+        let mut forks: u64 = 0;
         for tally in self.tallies.iter() {
-            spins = spins.saturating_add(tally.added());
+            forks = forks.saturating_add(tally.added());
         }
-        spins.min(MOST_SPINS)
+        forks
+            .saturating_mul(ROUNDS_FOR_FORK)
+            .clamp(LEAST_ROUNDS, MOST_ROUNDS)
+    }
+
+    /// Whether the same task is at the front of a deque for as long as a thief waits. No, if the run ends. Each round is a look at
+    /// `over`, since a compiler leaves out a loop that does nothing.
+    fn has_waited(&self, tally: &Tally) -> bool {
+        let Some(front) = tally.front() else {
+            return false;
+        };
+        for _ in 0..self.patience() {
+            if self.is_over() {
+                return false;
+            }
+        }
+        tally.front() == Some(front)
     }
 
     fn is_over(&self) -> bool {
@@ -327,18 +347,9 @@ impl<B: SharedBoard, J: RunName> Worker<B, J> {
         }
     }
 
-    /// Steals the oldest task of another worker. Its strand begins once its fork is split, unless the run was stopped.
+    /// Steals the oldest task of another worker. Its strand begins once its fork is split, unless the run was stopped. No thief takes
+    /// the next task of that worker at once after the split, so that the worker itself gets the tier's lock.
     fn steal<G: Gate, R: Threads + Wait + Sync>(
-        &mut self,
-        rt: &R,
-        common: &Common<'_, B, J, G>,
-    ) -> Option<Task<B, J>> {
-        let mut task = self.take_from_others(rt, common)?;
-        wait_for_split(rt, common, &mut task.now);
-        Some(task)
-    }
-
-    fn take_from_others<G: Gate, R: Threads + Wait + Sync>(
         &mut self,
         rt: &R,
         common: &Common<'_, B, J, G>,
@@ -348,12 +359,15 @@ impl<B: SharedBoard, J: RunName> Worker<B, J> {
             let Some(tally) = common.tally(other.number) else {
                 continue;
             };
-            if !tally.has_waited(common.patience()) {
+            if !common.has_waited(tally) {
                 continue;
             }
             if let Some(full) = other.thief.steal(rt) {
                 tally.steal();
-                return take_up(full);
+                let mut task = take_up(full)?;
+                wait_for_split(rt, common, &mut task.now);
+                tally.begin_anew();
+                return Some(task);
             }
         }
         None
