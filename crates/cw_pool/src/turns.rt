@@ -11,18 +11,8 @@ use cw_log::SharedBoard;
 use cw_strand::Want;
 use cw_tree::{Kind, Node};
 use std::sync::Wait;
+use std::thread;
 use std::thread::Threads;
-use std::{hint, thread};
-
-/// The number of spins between two tries of a refused access or block.
-const TURNS: u32 = 1_000;
-
-fn pause() {
-    for _ in 0..TURNS {
-        hint::spin_loop();
-    }
-    thread::yield_now();
-}
 
 /// Whether the last node is a refused access.
 fn is_refused(nodes: &[Node]) -> bool {
@@ -36,7 +26,7 @@ fn is_refused(nodes: &[Node]) -> bool {
 fn pause_if_refused<B: SharedBoard, J: RunName>(scene: &Scene<'_, B, J>, now: &Running<B, J>) {
     if let Mode::Goes = now.mode {
         if is_refused(scene.board.nodes(&now.token)) {
-            pause();
+            thread::yield_now();
         }
     }
 }
@@ -84,6 +74,6 @@ pub(crate) fn go_back<B: SharedBoard, J: RunName, R: Wait>(
 ) {
     roll_block(rt, scene, now);
     if let Mode::Goes = now.mode {
-        pause();
+        thread::yield_now();
     }
 }
