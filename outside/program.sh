@@ -253,7 +253,12 @@ try 'a naming fault of a main with parameters' 5 '' $'cwstm: line 1: Unknown\n' 
 printf 'fn f() { atomic { f(); } } fn main() { f(); }' > source
 try '10,000 functions and blocks in each other' 6 $'fault Depth in 0\n' '' run
 printf 'fn f() { spawn { f(); } } fn main() { f(); }' > source
-try 'a strand of 333,333 forks' 6 "fault Fuel in 0$(printf '.1l%.0s' $(seq 333333))"$'\n' '' run
+deepest="fault Fuel in 0$(printf '.1l%.0s' $(seq 333333))"$'\n'
+try 'a strand of 333,333 forks' 6 "$deepest" '' run
+# Whoever steals from it must leave it time: each steal looks at all columns behind its fork.
+for workers in 2 8; do
+  try "a strand of 333,333 forks, $workers workers" 6 "$deepest" '' run --workers "$workers"
+done
 
 # ## Threads
 
@@ -327,7 +332,7 @@ try 'one move too few' 9 $'moves spent\n' '' sim --workers 1 --moves 4
 try 'as many moves as it needs' 0 $'out 1\nc = 1\nend\n' '' sim --workers 1 --moves 5
 printf 'fn f() { spawn { f(); } f(); } fn main() { f(); }' > source
 try 'forks without an end' 9 $'moves spent\n' '' sim --moves 10
-try 'the same depth first' 6 "fault Fuel in 0$(printf '.1l%.0s' $(seq 333333))"$'\n' '' run --workers 1
+try 'the same depth first' 6 "$deepest" '' run --workers 1
 printf 'cell c; fn main() { spawn { atomic { c = c + 1; } } spawn { atomic { c = c + 1; } } spawn { atomic { c = c + 1; } } }' > source
 for strands in 1 2 3; do
   try "$strands strands have columns" 0 $'c = 3\nend\n' '' sim --strands "$strands"
