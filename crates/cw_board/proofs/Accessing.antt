@@ -19,12 +19,13 @@ use Rattle.cw_steps.specs.declared.view.Slot.TheVariants as slot
 use Rattle.cw_steps.specs.declared.draw.Aim.{Aim}
 use Rattle.cw_steps.specs.declared.draw.Aim.TheVariants as aims
 use Rattle.cw_steps.specs.declared.view.Turn.{Turn}
+use Rattle.cw_steps.specs.declared.view.Key.{Key}
 use Rattle.cw_steps.specs.declared.view.View.{View}
 use Rattle.cw_steps.specs.declared.view.Whereabouts.{Whereabouts}
 use Rattle.cw_steps.specs.Stands.{brought_token, token_of}
 use Rattle.cw_steps.specs.Tracks.{kind_of_access, HasRoom}
 use Rattle.cw_steps.specs.Homes.{CellComesHome, ComesHome, IsAsItLay, IsAsShown, LeavesCell, MayGive}
-use Rattle.cw_steps.specs.Views.{cell_with, drew_view, gave_view, held_by, key_of, newest_aim, newest_cell, newest_change, newest_slot, newest_tier, older, view_of, with_access, CanAccess, IsLowCell, IsTokenOf}
+use Rattle.cw_steps.specs.Views.{cell_with, drew_view, gave_view, held_by, key_of, newest_aim, newest_cell, newest_change, newest_slot, newest_tier, older, view_of, with_access, CanAccess, HasAsked, IsLowCell, IsTokenOf}
 use Rattle.cw_board.specs.declared.board.Board.{Board}
 use Rattle.cw_board.specs.Boards.{cells_in, columns_of, IsOf}
 use Rattle.cw_board.specs.Sound.{IsSoundToken}
@@ -93,17 +94,22 @@ leaves_access a lay x x' m w write value same first grown wrote left =
           ∙ ap (λ (k : ℤ). lay.entries ++ record { mark = m; wrote = w; value = value; old = k } ∷ []) v,
     )
 
+-- a question about the newest entry of a cell is one about that of a cell with the same entries
+asked_same : (key : Key) (v : View) (c d : CellParts) → d.entries ≡ c.entries → HasAsked key v c → HasAsked key v d
+asked_same key v c d same h = subst (λ (es : List Entry). HasAsked key v (record c { entries = es })) (sym same) h
+
 -- what a read answers is the value that the cell has
 pub reads_value : (o : Option ℤ) (w : Bool) (v x : ℤ) → w ≡ is_some o → x ≡ unwrap_or o v → w ≡ false → x ≡ v
 reads_value None w v x is left none = left
 reads_value (Some k) w v x is left none = absurd (cc (sym none ∙ is))
 
-pub may_access : (b : Board) (n : ℕ) (y : Slot) (t u : StrandToken) (c : CellParts) (wrote : Bool) (write : Option ℤ) (x : ℤ) → IsHolding b n y t u → n < cells_in b → HasCell aims.Access c u → wrote ≡ is_some write → x ≡ unwrap_or write (entries_value c)
-    → CanAccess (key_of b.shared) (view_of u) n wrote x
-may_access b n y t u c wrote write x h less has is left = record {
+pub may_access : (b : Board) (n : ℕ) (y : Slot) (t u : StrandToken) (c : CellParts) (wrote : Bool) (write : Option ℤ) (x : ℤ) → IsHolding b n y t u → n < cells_in b → HasCell aims.Access c u → HasAsked (key_of b.shared) (view_of u) c
+    → wrote ≡ is_some write → x ≡ unwrap_or write (entries_value c) → CanAccess (key_of b.shared) (view_of u) n wrote x
+may_access b n y t u c wrote write x h less has asked is left = record {
   there = less;
   turn = h.turn;
   aim = has.aim;
+  asked = subst (λ o. IsSomeAnd o (HasAsked (key_of b.shared) (view_of u))) (sym has.there) (asked_same (key_of b.shared) (view_of u) c has.lay (sym has.same.1) asked);
   read = λ none. subst (λ o. IsSomeAnd o (λ d. x ≡ entries_value d)) (sym has.there) (reads_value write wrote (entries_value c) x is left none ∙ value_of_same has.lay c has.same);
 }
 

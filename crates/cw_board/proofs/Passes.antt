@@ -13,7 +13,8 @@ use Rattle.cw_steps.specs.Views.{noted_view, view_of, LeavesIt}
 use Rattle.cw_board.specs.declared.asking.Moved.{Moved}
 use Rattle.cw_board.specs.declared.board.Board.{Board}
 use Rattle.cw_board.specs.declared.victims.Barrier.{Barrier}
-use Rattle.cw_board.specs.Asked.{noted_since, version_note, HasMoved, HasNoted, HasRead, IsAnswered, IsNotedBetween, IsOnePass}
+use Rattle.cw_steps.specs.Passes.{version_note, IsAnswered, IsNotedBetween, IsOnePass}
+use Rattle.cw_board.specs.Asked.{noted_since, HasMoved, HasNoted, HasRead}
 use Rattle.cw_board.specs.Boards.{cells_in, columns_of}
 use Rattle.cw_board.specs.Turns.{HasWaited}
 use Rattle.cw_board.specs.Victims.{begin_of, HasMovedSince, IsJudged, IsJudgedSince, IsSearched}

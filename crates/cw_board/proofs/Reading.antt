@@ -15,7 +15,8 @@ use Rattle.cw_steps.specs.Stands.{token_of}
 use Rattle.cw_steps.specs.Views.{held_by, noted_view, view_of, IsTokenOf}
 use Rattle.cw_board.specs.declared.board.Board.{Board}
 use Rattle.cw_board.specs.Boards.{cells_in, columns_of}
-use Rattle.cw_board.specs.Asked.{noted_since, HasNoted, HasRead, HeardFor, IsHeard, IsReading, Question, ReadsFor, ToldBy, ToldFor}
+use Rattle.cw_steps.specs.Passes.{IsHeard, ToldBy}
+use Rattle.cw_board.specs.Asked.{noted_since, HasNoted, HasRead, HeardFor, IsReading, Question, ReadsFor, ToldFor}
 
 pub reads_not : (t : StrandToken) → HasRead t t
 reads_not t = record { notes = []; me = refl; table = refl; track = refl; token = refl }

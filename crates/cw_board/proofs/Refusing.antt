@@ -6,7 +6,6 @@ use Rattle.std.proofs.lemmas.List.Elements.{Contains-append_cases, Contains-appe
 use Rattle.cw_stack.specs.Cells.{newest_entry, CellParts}
 use Rattle.cw_tree.specs.declared.access.Entry.{Entry}
 use Rattle.cw_tree.specs.declared.access.Mark.{Mark}
-use Rattle.cw_tree.specs.declared.conflict.Conflict.{Conflict}
 use Rattle.cw_tree.specs.AccessStacks.{stamps}
 use Rattle.cw_tree.specs.Newest.{last_eight}
 use Rattle.cw_log.specs.declared.board.Access.{Access}
@@ -17,10 +16,12 @@ use Rattle.cw_log.specs.Answers.{IsAround}
 use Rattle.cw_steps.specs.declared.table.StrandToken.{StrandToken}
 use Rattle.cw_steps.specs.Stands.{token_of}
 use Rattle.cw_steps.specs.Tracks.{begins, one_more, track_of, tries_of}
-use Rattle.cw_steps.specs.Views.{view_of}
+use Rattle.cw_steps.specs.Passes.{IsAnswered, IsAskedNow}
+use Rattle.cw_steps.specs.Views.{key_of, view_of, HasAsked}
 use Rattle.cw_board.specs.declared.board.Board.{Board}
 use Rattle.cw_board.specs.declared.victims.Barrier.{Barrier}
 use Rattle.cw_board.specs.Asked.{HasRead}
+use Rattle.cw_board.specs.Boards.{cells_in, columns_of}
 use Rattle.cw_steps.specs.declared.view.WordNote.{WordNote}
 use Rattle.cw_board.specs.Victims.{begin_of, conflict_with, GivesValue, IsJudged, IsJudgedBy, IsJudgedSince, IsRefusedBy, Refuses}
 
@@ -70,6 +71,21 @@ gives_none x y cell last bar own chain lay write (access.Conflict k) r = tt
 newest_and : (P : Mark → Type 0) (o : Option Entry) (last : Mark) → Some last ≡ option_map (λ (e : Entry). e.mark) o → P last → IsSomeAnd o (λ (e : Entry). P e.mark)
 newest_and P None last is p = subst (λ q. IsSomeAnd q P) is p
 newest_and P (Some e) last is p = subst (λ q. IsSomeAnd q P) is p
+
+newest_if : (P : Mark → Type 0) (o : Option Entry) (last : Mark) → Some last ≡ option_map (λ (e : Entry). e.mark) o → P last → IfSome o (λ (e : Entry). P e.mark)
+newest_if P None last is p = tt
+newest_if P (Some e) last is p = subst (λ q. IfSome q P) is p
+
+-- a question that let the access through was the last thing that the token did
+pub has_asked : (b : Board) (last : Mark) (t u : StrandToken) (y : CellParts) → Some last ≡ option_map (λ (e : Entry). e.mark) (newest_entry y.entries) → u.track ≡ t.track → IsJudgedSince b last t u None → HasAsked (key_of b.shared) (view_of u) y
+has_asked b last t u y newest track h =
+    newest_if (λ m. IsAskedNow (cells_in b) (columns_of b) m (view_of u).column (view_of u).notes) (newest_entry y.entries) last newest (record {
+      before = h.between ++ (view_of t).notes;
+      verdict = h.is.verdict;
+      through = h.is.through;
+      question = subst (λ (k : ℕ). IsAnswered (cells_in b) (columns_of b) last k (h.between ++ (view_of t).notes) (view_of u).notes h.is.verdict)
+          (ap (λ x. (track_of x).column) (sym track) ∙ sym u.column) h.is.question;
+    })
 
 -- the token noted nothing after that
 pub judged_still : (b : Board) (last : Mark) (t u v : StrandToken) (found : Option Barrier) → (view_of v).notes ≡ (view_of u).notes → IsJudgedSince b last t u found → IsJudgedSince b last t v found

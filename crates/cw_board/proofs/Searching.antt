@@ -14,7 +14,8 @@ use Rattle.cw_steps.specs.declared.table.StrandToken.{StrandToken}
 use Rattle.cw_steps.specs.Stands.{token_of}
 use Rattle.cw_steps.specs.Tracks.{begins, track_of}
 use Rattle.cw_steps.specs.Views.{view_of}
-use Rattle.cw_board.specs.Asked.{noted_since, HasRead, ToldBy}
+use Rattle.cw_steps.specs.Passes.{ToldBy}
+use Rattle.cw_board.specs.Asked.{noted_since, HasRead}
 use Rattle.cw_board.specs.Victims.{begin_mark, outermost_first, AreAbove, IsFirstNotAbove}
 use Rattle.cw_board.proofs.Reading.{noted_read, since_grown, since_more, told_first, told_more}
 use Rattle.cw_board.proofs.Refusing.{begins_back}

@@ -9,7 +9,7 @@ use Rattle.cw_tree.specs.declared.conflict.Conflict.{Conflict}
 use Rattle.cw_trace.specs.Told.{Read, Answer}
 use Rattle.cw_trace.specs.Query.{Covers}
 use Rattle.cw_trace.specs.declared.verdict.Verdict.{Verdict}
-use Rattle.cw_trace.specs.declared.verdict.Verdict.TheVariants.{Against, Free, Within}
+use Rattle.cw_trace.specs.declared.verdict.Verdict.TheVariants.{Against}
 use Rattle.cw_log.specs.declared.board.Access.{Access}
 use Rattle.cw_log.specs.declared.board.Access.TheVariants as access
 use Rattle.cw_log.specs.declared.log.Above.{Above}
@@ -26,7 +26,8 @@ use Rattle.cw_steps.specs.Views.{view_of}
 use Rattle.cw_board.specs.declared.asking.Moved.{Moved}
 use Rattle.cw_board.specs.declared.board.Board.{Board}
 use Rattle.cw_board.specs.declared.victims.Barrier.{Barrier}
-use Rattle.cw_board.specs.Asked.{HasMoved, HasNoted, IsAnswered, IsOnePass, ToldBy}
+use Rattle.cw_steps.specs.Passes.{IsAnswered, IsOnePass, LetsThrough, ToldBy}
+use Rattle.cw_board.specs.Asked.{HasMoved, HasNoted}
 use Rattle.cw_board.specs.Boards.{cells_in, columns_of}
 use Rattle.cw_board.specs.Turns.{HasCell, IsHolding}
 
@@ -73,12 +74,6 @@ attempt_refused None n = n
 attempt_refused (Some a) n = a.attempt
 
 -- ## What stands in the way
-
--- no access is refused for this verdict
-abbrev pub LetsThrough : Verdict → Type 0
-LetsThrough Free = Unit {0}
-LetsThrough Within = Unit {0}
-LetsThrough (Against block) = ⊥
 
 -- one pass gave a verdict that lets the token's next access through
 pub record IsClear (b : Board) (last : Mark) (t : StrandToken) (before after : List WordNote) : Type 0 where

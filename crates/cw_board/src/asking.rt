@@ -9,7 +9,8 @@ ghost use Rattle.cw_steps.specs.Stands.{token_of};
 ghost use Rattle.cw_steps.specs.Tracks.{track_of};
 ghost use Rattle.cw_steps.specs.Views.{view_of, IsTokenOf};
 ghost use Rattle.cw_board.specs.Boards.{cells_in, columns_of, IsOf};
-ghost use Rattle.cw_board.specs.Asked.{low_half, noted_since, word_number, version_note, HasMoved, HasRead, HeardFor, IsAnswered, ReadsFor, ToldBy, ToldFor};
+ghost use Rattle.cw_steps.specs.Passes.{low_half, word_number, version_note, IsAnswered, ToldBy};
+ghost use Rattle.cw_board.specs.Asked.{noted_since, HasMoved, HasRead, HeardFor, ReadsFor, ToldFor};
 
 use crate::Board;
 use cw_order::Steps;

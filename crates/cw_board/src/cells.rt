@@ -11,7 +11,7 @@ ghost use Rattle.cw_steps.specs.Tracks.{track_of, IsReady};
 ghost use Rattle.cw_steps.specs.declared.draw.Aim.TheVariants as aims;
 ghost use Rattle.cw_steps.specs.declared.draw.Home.TheVariants as home;
 ghost use Rattle.cw_steps.specs.Homes.{CellComesHome};
-ghost use Rattle.cw_steps.specs.Views.{gave_view, newest_aim, newest_cell, view_of, IsLowCell, IsQuiet};
+ghost use Rattle.cw_steps.specs.Views.{gave_view, key_of, newest_aim, newest_cell, view_of, HasAsked, IsLowCell, IsQuiet};
 ghost use Rattle.cw_board.specs.Asked.{HasNoted};
 ghost use Rattle.cw_board.specs.Boards.{cells_in, IsOf};
 ghost use Rattle.cw_board.specs.Turns.{HasCell, IsHolding};
@@ -74,7 +74,8 @@ impl Board {
         self.shared.give(token, cell, Home::Plain);
     }
 
-    /// Makes an access of a cell that is held, and puts the cell back. Returns the value after the access.
+    /// Makes an access of a cell that is held, and puts the cell back. Returns the value after the access. If the cell has entries, the
+    /// token has just asked about the newest one.
     pub(crate) fn make_access(
         &self,
         token: &mut StrandToken,
@@ -87,6 +88,7 @@ impl Board {
         requires low { IsLowCell (view_of token.old).seen (slot.Cell held) }
         requires lies { HasCell aims.Access held token.old }
         requires room { 0 < held.room }
+        requires asked { HasAsked (key_of self.now.shared) (view_of token.old) held }
         requires ready { IsReady token.old.track 1 }
         ensures of { IsOf self.now token.new }
         ensures written { IsWritten write result }

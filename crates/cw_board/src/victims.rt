@@ -2,7 +2,8 @@
 ghost use Rattle.std.specs.Prelude.{◌≡◌, ◌<◌, Contains, IfErr, IfOk, IfSome, length, slice_get, Some};
 ghost use Rattle.cw_steps.specs.Stands.{token_of};
 ghost use Rattle.cw_steps.specs.Views.{view_of, IsTokenOf};
-ghost use Rattle.cw_board.specs.Asked.{noted_since, HasMoved, HasRead, ToldBy};
+ghost use Rattle.cw_steps.specs.Passes.{ToldBy};
+ghost use Rattle.cw_board.specs.Asked.{noted_since, HasMoved, HasRead};
 ghost use Rattle.cw_board.specs.Boards.{cells_in, columns_of};
 ghost use Rattle.cw_board.specs.Victims.{outermost_first, HasMovedSince, IsJudged, IsJudgedSince, IsSearched, IsVictim};
 

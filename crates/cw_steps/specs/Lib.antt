@@ -1,6 +1,7 @@
 pub mod Places
 pub mod Words
 pub mod Totals
+pub mod Passes
 pub mod Around
 pub mod Tracks
 pub mod Views

@@ -1,5 +1,5 @@
 -- What a token knows, and what each step makes of that.
-use Rattle.std.specs.Prelude.{◌≡◌, ℕ, ℤ, zero, suc, ◌+◌, ◌-◌, ◌*◌, ◌^◌, ◌<◌, ◌≤◌, ◌==◌, ◌||◌, nat_lt, Bool, true, false, All, List, [], ◌∷◌, ◌++◌, length, map, max, drop, Option, Some, None, IsSomeAnd, if◌then◌else◌}
+use Rattle.std.specs.Prelude.{◌≡◌, ℕ, ℤ, zero, suc, ◌+◌, ◌-◌, ◌*◌, ◌^◌, ◌<◌, ◌≤◌, ◌==◌, ◌||◌, nat_lt, Bool, true, false, All, List, [], ◌∷◌, ◌++◌, length, map, max, drop, Option, Some, None, IfSome, IsSomeAnd, if◌then◌else◌}
 use Rattle.std.specs.List.Sorted.{IsStrictlyIncreasing}
 use Rattle.atomic_table.specs.Table.{Me, Step, rest}
 use Rattle.cw_code.specs.declared.Back.{Back}
@@ -8,7 +8,7 @@ use Rattle.cw_tree.specs.declared.access.Mark.{Mark}
 use Rattle.cw_tree.specs.declared.closed.Halt.{Halt}
 use Rattle.cw_log.specs.declared.token.Phase.{Phase}
 use Rattle.cw_log.specs.declared.token.Phase.TheVariants.{Going, Waiting, Over, Parted}
-use Rattle.cw_stack.specs.Cells.{CellParts, entries_value}
+use Rattle.cw_stack.specs.Cells.{newest_entry, CellParts, entries_value}
 use Rattle.cw_trace.specs.Traces.{Traces}
 use Rattle.cw_trace.specs.Columns as columns
 use Rattle.cw_trace.specs.Labels.{AreLabels}
@@ -29,6 +29,7 @@ use Rattle.cw_steps.specs.declared.view.Whereabouts.{Whereabouts}
 use Rattle.cw_steps.specs.declared.view.Turn.{Turn}
 use Rattle.cw_steps.specs.declared.view.View.{View}
 use Rattle.cw_steps.specs.Around.{caught_up, innermost, outwards}
+use Rattle.cw_steps.specs.Passes.{IsAskedNow}
 use Rattle.cw_steps.specs.Places.{places_of_column, word_of_place}
 use Rattle.cw_steps.specs.Words.{row_of, IsInRow, IsStored}
 use Rattle.cw_steps.specs.declared.table.Shared.{Shared}
@@ -326,11 +327,17 @@ pub record CanFork (key : Key) (v : View) (left right gap : ℕ) : Type 0 where
   pub gap_used : gap ≡ (if left == right then v.gap else if v.word == 0 then v.gap else left)
   pub shown : IsShownAhead (columns_for left right) v.word v.column v.turns
 
--- An access needs the turn of its cell, taken for an access. A read needs the value that the cell has.
+-- no access of the cell was made yet, or the view has just asked about the newest one, and the answer lets its own next access through
+abbrev pub HasAsked : Key → View → CellParts → Type 0
+HasAsked key v y = IfSome (newest_entry y.entries) (λ (e : Entry). IsAskedNow (cells_of key) key.columns e.mark v.column v.notes)
+
+-- An access needs the turn of its cell, taken for an access. If the cell that lay there has entries, a question about the newest one
+-- was asked last, and its answer lets the access through. A read needs the value that the cell has.
 pub record CanAccess (key : Key) (v : View) (c : ℕ) (wrote : Bool) (x : ℤ) : Type 0 where
   pub there : c < cells_of key
   pub turn : newest_slot v.turns ≡ Some c
   pub aim : newest_aim v.turns ≡ aims.Access
+  pub asked : IsSomeAnd (newest_cell v.turns) (HasAsked key v)
   pub read : wrote ≡ false → IsSomeAnd (newest_cell v.turns) (λ y. x ≡ entries_value y)
 
 -- A cancel lists cells of the board, by rising number.

@@ -9,7 +9,7 @@ use Rattle.cw_steps.specs.Views.{view_of}
 use Rattle.cw_board.specs.Victims.{GivesValue, IsJudgedBy, IsJudgedSince, Refuses}
 use Rattle.cw_board.proofs.Reading.{read_returned}
 use Rattle.cw_board.proofs.Returning.{returned_cell, returned_holds}
-use Rattle.cw_board.proofs.Refusing.{gives_none, ok_both, refused_by}
+use Rattle.cw_board.proofs.Refusing.{gives_none, has_asked, ok_both, refused_by}
 use Rattle.cw_board.proofs.board.Board.access_held.Goals as goal
 
 pub refuse-requires-clause-held : goal.refuse-requires-clause-held
@@ -58,3 +58,10 @@ refuse-requires-clause-lies g c = returned_cell aims.Access c.args.held c.args.t
 
 pub make_access-requires-in-None-clause-lies : goal.make_access-requires-in-None-clause-lies
 make_access-requires-in-None-clause-lies g c = returned_cell aims.Access c.args.held c.args.token.now c.barrier.new.token c.requires.lies (read_returned c.args.token.now c.barrier.new.token c.barrier.ensures.read)
+
+pub make_access-requires-in-None-clause-asked : goal.make_access-requires-in-None-clause-asked
+make_access-requires-in-None-clause-asked g c =
+    let b = c.args.self.now in
+    let t = c.args.token.now in
+    let u = c.barrier.new.token in
+    has_asked b c.in-Some.last t u c.args.held c.in-Some.ensures.newest c.barrier.ensures.read.track (subst (λ o. IsJudgedSince b c.in-Some.last t u o) c.in-None.is c.barrier.ensures.judged)

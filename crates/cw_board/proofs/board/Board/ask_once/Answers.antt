@@ -1,6 +1,7 @@
 use Rattle.std.proofs.Common.{ℕ, subst}
 use Rattle.cw_trace.specs.Query.{Gives}
-use Rattle.cw_board.specs.Asked.{noted_since, ToldBy}
+use Rattle.cw_steps.specs.Passes.{ToldBy}
+use Rattle.cw_board.specs.Asked.{noted_since}
 use Rattle.cw_board.specs.Boards.{cells_in, columns_of}
 use Rattle.cw_board.proofs.Passes.{one_pass}
 use Rattle.cw_board.proofs.Reading.{reads_then}

@@ -58,4 +58,4 @@ draw-stamp-requires-clause-fits c =
     let signed : SFits w64 c.value_after-value.result = search rules in
     let x : ℤ = to_z w64 (of_z w64 c.value_after-value.result) in
     let value : x ≡ unwrap_or c.args.write (entries_value c.args.held) = to_z-of_z w64 c.value_after-value.result signed ∙ c.value_after-value.ensures in
-    may_access c.args.self.now c.args.cell h.1 h.0 c.args.token.now c.args.held c.is_some-wrote.result c.args.write x h.2 c.requires.cell c.requires.lies c.is_some-wrote.ensures value
+    may_access c.args.self.now c.args.cell h.1 h.0 c.args.token.now c.args.held c.is_some-wrote.result c.args.write x h.2 c.requires.cell c.requires.lies c.requires.asked c.is_some-wrote.ensures value

@@ -1,7 +1,8 @@
 use Rattle.std.proofs.Common.{◌≡◌, ◌∙◌, List, subst, arith}
 use Rattle.std.specs.Prelude.{slice_get, Some}
 use Rattle.cw_log.specs.declared.log.Above.{Above}
-use Rattle.cw_board.specs.Asked.{noted_since, ToldBy}
+use Rattle.cw_steps.specs.Passes.{ToldBy}
+use Rattle.cw_board.specs.Asked.{noted_since}
 use Rattle.cw_board.specs.Boards.{cells_in, columns_of}
 use Rattle.cw_board.specs.Victims.{outermost_first}
 use Rattle.cw_board.proofs.Reading.{reads_then}

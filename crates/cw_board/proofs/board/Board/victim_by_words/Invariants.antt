@@ -1,6 +1,7 @@
 use Rattle.std.proofs.Common.{◌≡◌, length, take}
 use Rattle.cw_steps.specs.Views.{IsTokenOf}
-use Rattle.cw_board.specs.Asked.{noted_since, HasRead, ToldBy}
+use Rattle.cw_steps.specs.Passes.{ToldBy}
+use Rattle.cw_board.specs.Asked.{noted_since, HasRead}
 use Rattle.cw_board.specs.Boards.{cells_in, columns_of}
 use Rattle.cw_board.specs.Victims.{outermost_first, AreAbove}
 use Rattle.cw_board.proofs.board.Board.victim_by_words.Given as goal
