@@ -145,6 +145,7 @@ impl Board {
         requires shown { IsAsShown (newest_tier (view_of token.old).turns) (newest_change (view_of token.old).turns) (slot.Tier tier) }
         ensures of { IsOf self.now token.new }
         ensures token { token_of token.new ≡ brought_token home (token_of token.old) }
+        ensures word { (track_of token.new.track).word ≡ (track_of token.old.track).word }
     {
         let place = self.shared.cells();
         self.shared.put_tier(token, tier);
@@ -161,6 +162,7 @@ impl Board {
         requires brings { ComesHome (view_of token.old).fork (view_of token.old).phase (newest_aim (view_of token.old).turns) home (newest_tier (view_of token.old).turns) (slot.Tier tier) }
         ensures of { IsOf self.now token.new }
         ensures token { token_of token.new ≡ brought_token home (token_of token.old) }
+        ensures word { (track_of token.new.track).word ≡ (track_of token.old.track).word }
     {
         self.show_tier(token, &tier, fork);
         self.leave_tier(token, tier, home);
@@ -175,6 +177,7 @@ impl Board {
         ensures of { IsOf self.now token.new }
         ensures ok { OnOk result (token_of token.new ≡ once_split (token_of token.old)) }
         ensures err { OnErr result (token_of token.new ≡ token_of token.old) }
+        ensures word { (track_of token.new.track).word ≡ (track_of token.old.track).word }
     {
         let mut tier = self.hold_tier(rt, token, Aim::Split);
         match split_tier(&mut tier, fork) {
@@ -198,6 +201,7 @@ impl Board {
         requires fork { MayMerge (token_of token.old) fork }
         ensures of { IsOf self.now token.new }
         ensures token { token_of token.new ≡ merged (token_of token.old) }
+        ensures word { (track_of token.new.track).word ≡ (track_of token.old.track).word }
     {
         let mut tier = self.hold_tier(rt, token, Aim::Merge);
         let merged = merge_tier(&mut tier, fork);

@@ -1,5 +1,6 @@
 use Rattle.std.proofs.Common.{◌∙◌, ap, arith}
 use Rattle.cw_steps.specs.Stands.{brought_token}
+use Rattle.cw_steps.specs.Tracks.{track_of}
 use Rattle.cw_steps.specs.Views.{newest_tier, view_of}
 use Rattle.cw_steps.specs.declared.view.Slot.TheVariants as slot
 use Rattle.cw_board.specs.Boards.{cells_in}
@@ -26,3 +27,6 @@ leave_tier-requires-clause-shown c =
 
 pub returns-clause-token : goal.returns-clause-token
 returns-clause-token c = c.leave_tier.ensures.token ∙ ap (λ x. brought_token c.args.home x) c.show_tier.ensures.shown.token
+
+pub returns-clause-word : goal.returns-clause-word
+returns-clause-word c = c.leave_tier.ensures.word ∙ ap (λ k. (track_of k).word) c.show_tier.ensures.shown.track
