@@ -1,6 +1,6 @@
 -- Serves `IsOnePass` and `IsJudgedSince`: words that were heard between two loads of the version.
-use Rattle.std.proofs.Common.{◌≡◌, ◌∙◌, ℕ, List, [], ◌∷◌, ◌++◌, ap, refl, subst, reverse}
-use Rattle.std.specs.Prelude.{◌%◌, Option, Some, None}
+use Rattle.std.proofs.Common.{◌≡◌, ◌∙◌, ℕ, List, [], ◌∷◌, ◌++◌, ap, inl, inr, refl, subst, reverse}
+use Rattle.std.specs.Prelude.{◌⊎◌, ◌%◌, Option, Some, None}
 use Rattle.cw_tree.specs.declared.access.Mark.{Mark}
 use Rattle.cw_trace.specs.declared.verdict.Verdict.TheVariants.{Against}
 use Rattle.cw_log.specs.declared.token.Token.{Token}
@@ -17,8 +17,8 @@ use Rattle.cw_steps.specs.Passes.{version_note, IsAnswered, IsNotedBetween, IsOn
 use Rattle.cw_board.specs.Asked.{noted_since, HasMoved, HasNoted, HasRead}
 use Rattle.cw_board.specs.Boards.{cells_in, columns_of}
 use Rattle.cw_board.specs.Turns.{HasWaited}
-use Rattle.cw_board.specs.Victims.{begin_of, HasMovedSince, IsJudged, IsJudgedSince, IsSearched}
-use Rattle.cw_board.proofs.Reading.{noted_read, notes_read, since_grown}
+use Rattle.cw_board.specs.Victims.{begin_of, HasMovedSince, HasOnlyMoved, IsJudged, IsJudgedSince, IsSearched}
+use Rattle.cw_board.proofs.Reading.{noted_read, since_grown}
 
 -- the version, then words, then the version again
 module _ (cells m n : ℕ) (t t' u u' : StrandToken) (first : (view_of t').notes ≡ version_note cells m ∷ (view_of t).notes) (h : HasRead t' u) (second : (view_of u').notes ≡ version_note cells n ∷ (view_of u).notes) where
@@ -44,16 +44,40 @@ judged_of b last t u before after (Some bar) track token h = record {
   around = subst (λ (x : Token). IsAround x (begin_of bar.victim)) token h.around;
 }
 
--- of a token that only read before
-pub judged_since : (b : Board) (last : Mark) (t u v : StrandToken) (found : Option Barrier) → HasRead t u → IsJudged b last u (view_of u).notes (view_of v).notes found → IsJudgedSince b last t v found
-judged_since b last t u v found h g = record {
-  between = h.notes;
-  is = subst (λ (ns : List WordNote). IsJudged b last t ns (view_of v).notes found) (notes_read t u h) (judged_of b last t u (view_of u).notes (view_of v).notes found (ap track_of h.track) h.token g);
-}
+-- ## Tries that moved
 
--- a pass that moved, after another one
-pub moved_since : (cells : ℕ) (t u v : StrandToken) (m : Moved) → HasRead t u → HasMoved cells (view_of u).notes (view_of v).notes m → HasMovedSince cells (view_of t).notes (view_of v).notes m
-moved_since cells t u v m h g = record { between = h.notes; moved = subst (λ (ns : List WordNote). HasMoved cells ns (view_of v).notes m) (notes_read t u h) g }
+module _ (b : Board) (last : Mark) (t u : StrandToken) where
+  pub moved_asking : (m : Moved) → HasMoved (cells_in b) (view_of t).notes (view_of u).notes m → HasMovedSince b last t (view_of t).notes (view_of u).notes m
+  moved_asking m h = record { between = (view_of t).notes; question = inl refl; moved = h }
+
+  pub moved_searching : (v : StrandToken) (block : ℕ) (m : Moved) → IsAnswered (cells_in b) (columns_of b) last (track_of t.track).column (view_of t).notes (view_of u).notes (Against block) → HasMoved (cells_in b) (view_of u).notes (view_of v).notes m
+      → HasMovedSince b last t (view_of t).notes (view_of v).notes m
+  moved_searching v block m a h = record { between = (view_of u).notes; question = inr (block, a); moved = h }
+
+  -- it is about the place of the token alone
+  moved_of : (before after : List WordNote) (m : Moved) → track_of u.track ≡ track_of t.track → HasMovedSince b last u before after m → HasMovedSince b last t before after m
+  moved_of before after m track h = record {
+    between = h.between;
+    question = subst (λ (x : TrackParts). (h.between ≡ before) ⊎ ((block : ℕ) × IsAnswered (cells_in b) (columns_of b) last x.column before h.between (Against block))) track h.question;
+    moved = h.moved;
+  }
+
+-- every try moved since the token was `t`
+abbrev pub EachMoved : Board → (last : Mark) → (t u : StrandToken) → Type 0
+EachMoved b last t u = (starts : List (List WordNote)) × HasOnlyMoved b last t (view_of t).notes starts (view_of u).notes
+
+-- one more
+pub moved_again : (b : Board) (last : Mark) (t u v : StrandToken) (m : Moved) → HasRead t u → EachMoved b last t u → HasMovedSince b last u (view_of u).notes (view_of v).notes m → EachMoved b last t v
+moved_again b last t u v m h each g = ((view_of u).notes ∷ each.0, ((m, moved_of b last t u (view_of u).notes (view_of v).notes m (ap track_of h.track) g), each.1))
+
+-- of a token all of whose tries moved before
+pub judged_since : (b : Board) (last : Mark) (t u v : StrandToken) (found : Option Barrier) → HasRead t u → EachMoved b last t u → IsJudged b last u (view_of u).notes (view_of v).notes found → IsJudgedSince b last t v found
+judged_since b last t u v found h each g = record {
+  starts = each.0;
+  between = (view_of u).notes;
+  moved = each.1;
+  is = judged_of b last t u (view_of u).notes (view_of v).notes found (ap track_of h.track) h.token g;
+}
 
 -- ## A token that waited for a turn
 

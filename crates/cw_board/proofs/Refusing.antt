@@ -89,7 +89,7 @@ has_asked b last t u y newest track h =
 
 -- the token noted nothing after that
 pub judged_still : (b : Board) (last : Mark) (t u v : StrandToken) (found : Option Barrier) → (view_of v).notes ≡ (view_of u).notes → IsJudgedSince b last t u found → IsJudgedSince b last t v found
-judged_still b last t u v found same h = record { between = h.between; is = subst (λ (ns : List WordNote). IsJudged b last t (h.between ++ (view_of t).notes) ns found) (sym same) h.is }
+judged_still b last t u v found same h = record { starts = h.starts; between = h.between; moved = h.moved; is = subst (λ (ns : List WordNote). IsJudged b last t h.between ns found) (sym same) h.is }
 
 module _ (b : Board) (cell : ℕ) (entries : List Entry) (last : Mark) (t u v : StrandToken) (newest : Some last ≡ option_map (λ (e : Entry). e.mark) (newest_entry entries)) (same : (view_of v).notes ≡ (view_of u).notes) where
   abbrev chain : List ℕ

@@ -1,5 +1,5 @@
 -- What stands in the way of an access, and what a refused access tells.
-use Rattle.std.specs.Prelude.{◌≡◌, ℕ, ℤ, ◌∷◌, ◌++◌, All, true, false, List, Option, Some, None, IfSome, IsSomeAnd, length, reverse, unwrap_or}
+use Rattle.std.specs.Prelude.{◌≡◌, ◌⊎◌, ℕ, ℤ, [], ◌∷◌, ◌++◌, All, true, false, List, Option, Some, None, IfSome, IsSomeAnd, length, reverse, unwrap_or}
 use Rattle.cw_stack.specs.Cells.{entries_value, newest_entry, CellParts}
 use Rattle.cw_tree.specs.declared.access.Entry.{Entry}
 use Rattle.cw_tree.specs.declared.access.Mark.{Mark}
@@ -94,15 +94,24 @@ abbrev pub IsJudged : Board → (last : Mark) → StrandToken → (before after 
 IsJudged b last t before after None = IsClear b last t before after
 IsJudged b last t before after (Some x) = IsBarrier b last t before after x.block x.victim
 
--- that is so by what the token noted last since it was `t`
-pub record IsJudgedSince (b : Board) (last : Mark) (t u : StrandToken) (found : Option Barrier) : Type 0 where
+-- A try to judge the token's next access ended with a pass that moved: that of the question, or that of the search after a question
+-- that went against the access.
+pub record HasMovedSince (b : Board) (last : Mark) (t : StrandToken) (before after : List WordNote) (m : Moved) : Type 0 where
   pub between : List WordNote
-  pub is : IsJudged b last t (between ++ (view_of t).notes) (view_of u).notes found
+  pub question : (between ≡ before) ⊎ ((block : ℕ) × IsAnswered (cells_in b) (columns_of b) last (track_of t.track).column before between (Against block))
+  pub moved : HasMoved (cells_in b) between after m
 
--- the newest of these notes are those of a pass in which the tier moved
-pub record HasMovedSince (cells : ℕ) (before after : List WordNote) (m : Moved) : Type 0 where
+-- The notes grew from `before` to `after` by such tries alone. `starts` are the notes as they were when each try began, newest first.
+abbrev pub HasOnlyMoved : Board → (last : Mark) → StrandToken → (before : List WordNote) → (starts : List (List WordNote)) → (after : List WordNote) → Type 0
+HasOnlyMoved b last t before [] after = after ≡ before
+HasOnlyMoved b last t before (start ∷ starts) after = ((m : Moved) × HasMovedSince b last t start after m) × HasOnlyMoved b last t before starts start
+
+-- One try judged that since the token was `t`. Only tries that moved came before it.
+pub record IsJudgedSince (b : Board) (last : Mark) (t u : StrandToken) (found : Option Barrier) : Type 0 where
+  pub starts : List (List WordNote)
   pub between : List WordNote
-  pub moved : HasMoved cells (between ++ before) after m
+  pub moved : HasOnlyMoved b last t (view_of t).notes starts between
+  pub is : IsJudged b last t between (view_of u).notes found
 
 abbrev pub conflict_with : (cell asker last : ℕ) → Barrier → (own : ℕ) → (chain : List ℕ) → Conflict
 conflict_with c asker last x own chain = record {

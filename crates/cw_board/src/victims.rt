@@ -97,7 +97,7 @@ impl Board {
         requires table { IsTokenOf self.now.shared token.old }
         ensures read { HasRead token.old token.new }
         ensures judged { IfOk result (IsJudged self.now last token.old (view_of token.old).notes (view_of token.new).notes) }
-        ensures moved { IfErr result (HasMovedSince (cells_in self.now) (view_of token.old).notes (view_of token.new).notes) }
+        ensures moved { IfErr result (HasMovedSince self.now last token.old (view_of token.old).notes (view_of token.new).notes) }
     {
         let mut looks = Steps::<K>::new(blanks.0);
         let mut compares = Steps::<L>::new(blanks.1);
@@ -120,7 +120,7 @@ impl Board {
         requires table { IsTokenOf self.now.shared token.old }
         ensures read { HasRead token.old token.new }
         ensures judged { IfOk result (IsJudged self.now last token.old (view_of token.old).notes (view_of token.new).notes) }
-        ensures moved { IfErr result (HasMovedSince (cells_in self.now) (view_of token.old).notes (view_of token.new).notes) }
+        ensures moved { IfErr result (HasMovedSince self.now last token.old (view_of token.old).notes (view_of token.new).notes) }
     {
         let blanks = (Blank::new(1), Blank::new(1));
         self.judge_counted::<Brand, Brand>(blanks, token, last)
