@@ -236,17 +236,17 @@ fn threads_count(rt: HostRuntime) -> Result<(), Fail> {
 }
 
 /// How often each of two threads splits a fork and merges it.
-const CHANGES: u32 = 200;
+const CHANGES: u32 = 10_000;
 
 /// How often each of two other threads asks.
-const QUESTIONS: u32 = 5_000;
+const QUESTIONS: u32 = 1_000_000;
 
 /// The limits of a board with two columns for each fork.
 const WIDE: Limits = Limits {
     fuel: 0,
     size: 0,
     aborts: 9,
-    strands: 900,
+    strands: 41_000,
     moves: 0,
 };
 
