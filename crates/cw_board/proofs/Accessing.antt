@@ -81,10 +81,10 @@ value_of_same : (c d : CellParts) → IsAsItLay c d → entries_value d ≡ entr
 value_of_same c d same = ap (λ (f : ℤ). cell_value f (map written_by d.entries)) same.0 ∙ ap (λ es. cell_value c.first (map written_by es)) same.1
 
 -- the cell goes home with the entry of the access
-pub leaves_access : (a : Aim) (lay x x' : CellParts) (m : Mark) (w : Bool) (write : Option ℤ) (value : ℤ) → IsAsItLay lay x → x'.first ≡ x.first
+pub leaves_access : (a : Aim) (lay x x' : CellParts) (m : Mark) (w : Bool) (write : Option ℤ) (value : ℤ) → IsAsItLay lay x → x'.first ≡ x.first → x'.cleaned ≡ x.cleaned
     → x'.entries ≡ x.entries ++ entry_of m write (entries_value x) ∷ [] → w ≡ is_some write → value ≡ unwrap_or write (entries_value x)
     → LeavesCell a (record lay { entries = lay.entries ++ record { mark = m; wrote = w; value = value; old = entries_value lay } ∷ [] }) x'
-leaves_access a lay x x' m w write value same first grown wrote left =
+leaves_access a lay x x' m w write value same first cleaned grown wrote left =
     let v : entries_value x ≡ entries_value lay = value_of_same lay x same in
     as_it_lay a (record lay { entries = lay.entries ++ record { mark = m; wrote = w; value = value; old = entries_value lay } ∷ [] }) x' (
       first ∙ same.0,
@@ -92,6 +92,7 @@ leaves_access a lay x x' m w write value same first grown wrote left =
           ∙ ap (λ (b : Bool). lay.entries ++ record { mark = m; wrote = b; value = unwrap_or write (entries_value x); old = entries_value x } ∷ []) (sym wrote)
           ∙ ap (λ (k : ℤ). lay.entries ++ record { mark = m; wrote = w; value = k; old = entries_value x } ∷ []) (sym left)
           ∙ ap (λ (k : ℤ). lay.entries ++ record { mark = m; wrote = w; value = value; old = k } ∷ []) v,
+      cleaned ∙ same.2,
     )
 
 -- a question about the newest entry of a cell is one about that of a cell with the same entries

@@ -72,5 +72,5 @@ low_kept most x y p e low = subst (All (λ (k : Entry). k.mark.stamp ≤ most)) 
 
 -- what was undone of a cell that is as it lay was undone of what lay there
 pub undone_since : (c d e : CellParts) → IsAsItLay c d → LeavesCell aims.Undo d e → LeavesCell aims.Undo c e
-undone_since c d e same (inl kept) = inl (kept.0 ∙ same.0, kept.1 ∙ same.1)
-undone_since c d e same (inr cut) = inr (record { stamp = cut.stamp; first = cut.first ∙ same.0; entries = cut.entries ∙ ap (filter (λ (x : Entry). nat_lt x.mark.stamp cut.stamp)) same.1 })
+undone_since c d e same (inl kept) = inl (kept.0 ∙ same.0, kept.1 ∙ same.1, kept.2 ∙ same.2)
+undone_since c d e same (inr cut) = inr (record { stamp = cut.stamp; first = cut.first ∙ same.0; entries = cut.entries ∙ ap (filter (λ (x : Entry). nat_lt x.mark.stamp cut.stamp)) same.1; cleaned = cut.cleaned ∙ same.2 })

@@ -66,8 +66,7 @@ pub record HasTier (b : Board) (y : Slot) (u : StrandToken) : Type 0 where
   pub gap : (view_of u).gap < newest_used (view_of u).turns
   pub whole : IsTierOf (columns_of b) (newest_used (view_of u).turns) y
 
--- It has the cell that lay in the slot of its newest turn; only the room and the number of cleaned entries may differ. It took that
--- turn for `a`.
+-- It has the cell that lay in the slot of its newest turn; only the room may differ. It took that turn for `a`.
 pub record HasCell (a : Aim) (x : CellParts) (u : StrandToken) : Type 0 where
   pub lay : CellParts
   pub aim : newest_aim (view_of u).turns ≡ a

@@ -56,15 +56,16 @@ ComesHome f p a m lay (slot.Tier x) = IsSomeAnd lay (λ y. Brings f p a m y.colu
 ComesHome f p a m lay (slot.Cell x) = Unit {0}
 ComesHome f p a m lay slot.Empty = Unit {0}
 
--- the entries are those that lay there
+-- the entries are those that lay there, and as many of the oldest are cleaned
 abbrev pub IsAsItLay : (lay come : CellParts) → Type 0
-IsAsItLay c d = (d.first ≡ c.first) × (d.entries ≡ c.entries)
+IsAsItLay c d = (d.first ≡ c.first) × (d.entries ≡ c.entries) × (d.cleaned ≡ c.cleaned)
 
--- the entries are those that lay there with stamps smaller than `stamp`
+-- the entries are those that lay there with stamps smaller than `stamp`, and no more of them are cleaned than were
 pub record IsCutBack (lay come : CellParts) : Type 0 where
   pub stamp : ℕ
   pub first : come.first ≡ lay.first
   pub entries : come.entries ≡ filter (λ e. nat_lt e.mark.stamp stamp) lay.entries
+  pub cleaned : come.cleaned ≡ lay.cleaned
 
 abbrev pub LeavesCell : Aim → (lay come : CellParts) → Type 0
 LeavesCell aims.Undo c d = IsAsItLay c d ⊎ IsCutBack c d

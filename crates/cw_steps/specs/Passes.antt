@@ -1,5 +1,4 @@
--- Passes over the words of the table: what one hears, what the answer of a question is by that, and which answers let an access
--- through.
+-- Passes over the words of the table: what a pass hears, what that answers to a question, and which answers let an access through.
 use Rattle.std.specs.Prelude.{◌≡◌, ℕ, zero, suc, ◌^◌, ◌%◌, ◌&&◌, ◌++◌, ◌∷◌, nat_lt, Bool, List, Contains, Option, Some, None}
 use Rattle.cw_tree.specs.declared.access.Mark.{Mark}
 use Rattle.cw_trace.specs.Told.{Read, Answer, Owner, Lead, Up, Word, Inside, Number, Maybe, Test}
@@ -80,8 +79,7 @@ LetsThrough Free = Unit {0}
 LetsThrough Within = Unit {0}
 LetsThrough (Against block) = ⊥
 
--- the newest notes are those of one pass, in which a question about the access `last` and the asker's next one was answered, and that
--- answer lets the next access through
+-- the newest notes are those of one pass, by which a question about the access `last` lets the asker's next one through
 pub record IsAskedNow (cells columns : ℕ) (last : Mark) (asker : ℕ) (notes : List WordNote) : Type 0 where
   pub before : List WordNote
   pub verdict : Verdict

@@ -327,12 +327,12 @@ pub record CanFork (key : Key) (v : View) (left right gap : ℕ) : Type 0 where
   pub gap_used : gap ≡ (if left == right then v.gap else if v.word == 0 then v.gap else left)
   pub shown : IsShownAhead (columns_for left right) v.word v.column v.turns
 
--- no access of the cell was made yet, or the view has just asked about the newest one, and the answer lets its own next access through
+-- if the cell has entries, the newest notes are a question about the newest entry, whose answer lets the next access through
 abbrev pub HasAsked : Key → View → CellParts → Type 0
 HasAsked key v y = IfSome (newest_entry y.entries) (λ (e : Entry). IsAskedNow (cells_of key) key.columns e.mark v.column v.notes)
 
--- An access needs the turn of its cell, taken for an access. If the cell that lay there has entries, a question about the newest one
--- was asked last, and its answer lets the access through. A read needs the value that the cell has.
+-- An access needs the turn of its cell, taken for an access. If that cell has entries, a question about the newest one was asked
+-- last, and let the access through. A read needs the value that the cell has.
 pub record CanAccess (key : Key) (v : View) (c : ℕ) (wrote : Bool) (x : ℤ) : Type 0 where
   pub there : c < cells_of key
   pub turn : newest_slot v.turns ≡ Some c

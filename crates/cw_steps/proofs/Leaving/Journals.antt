@@ -69,7 +69,7 @@ module _ (key : Key) (n : ℕ) (t u : StrandToken) (takes : TakesIt key Look n t
       held = record { turn = ap (λ (z : View). newest_slot z.turns) view_now; slot = held_now ∙ ap (λ ys. (n, slot.Cell x) ∷ rest ys) (sym held_now) };
       whole = subst (λ (z : View). IsWhole key z.seen (newest_used z.turns) n (slot.Cell x)) (sym view_now) (subst (IsWhole key takes.clock takes.used n) lay takes.whole);
       tier = tt;
-      cell = subst (λ (z : View). CellComesHome n home.Plain (newest_aim z.turns) (newest_cell z.turns) (slot.Cell x)) (sym view_now) (subst (λ o. CellComesHome n home.Plain Look o (slot.Cell x)) (sym (ap cell_in lay)) (tt, (refl, refl)));
+      cell = subst (λ (z : View). CellComesHome n home.Plain (newest_aim z.turns) (newest_cell z.turns) (slot.Cell x)) (sym view_now) (subst (λ o. CellComesHome n home.Plain Look o (slot.Cell x)) (sym (ap cell_in lay)) (tt, (refl, refl, refl)));
       shown = subst (λ (z : View). IsAsShown (newest_tier z.turns) (newest_change z.turns) (slot.Cell x)) (sym view_now) tt;
     }
 

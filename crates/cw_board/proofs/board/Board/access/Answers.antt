@@ -11,13 +11,13 @@ use Rattle.cw_board.proofs.board.Board.access.Goals as goal
 pub leave_cell-requires-clause-comes : goal.leave_cell-requires-clause-comes
 leave_cell-requires-clause-comes g c =
     let h = c.hold_cell-held.ensures.cell in
-    let has : HasCell aims.Access c.reserve-2.new.self c.hold_cell-held.new.token = record { lay = h.lay; aim = h.aim; there = h.there; same = (c.reserve-2.ensures.first ∙ h.same.0, c.reserve-2.ensures.entries ∙ h.same.1) } in
+    let has : HasCell aims.Access c.reserve-2.new.self c.hold_cell-held.new.token = record { lay = h.lay; aim = h.aim; there = h.there; same = (c.reserve-2.ensures.first ∙ h.same.0, c.reserve-2.ensures.entries ∙ h.same.1, c.reserve-2.ensures.cleaned ∙ h.same.2) } in
     cell_comes c.args.cell home.Plain aims.Access c.reserve-2.new.self c.hold_cell-held.new.token tt has
 
 pub access_held-requires-clause-lies : goal.access_held-requires-clause-lies
 access_held-requires-clause-lies g c =
     let h = c.hold_cell-held.ensures.cell in
-    record { lay = h.lay; aim = h.aim; there = h.there; same = (c.reserve-2.ensures.first ∙ h.same.0, c.reserve-2.ensures.entries ∙ h.same.1) }
+    record { lay = h.lay; aim = h.aim; there = h.there; same = (c.reserve-2.ensures.first ∙ h.same.0, c.reserve-2.ensures.entries ∙ h.same.1, c.reserve-2.ensures.cleaned ∙ h.same.2) }
 
 pub returns-clause-asked : goal.returns-clause-asked
 returns-clause-asked g c =
@@ -30,7 +30,7 @@ returns-clause-asked g c =
       track = e.track;
       token = λ i. stands_for (e.track i) (e.seat i).me.0 (e.stop i);
       holding = h.held;
-      found = record { lay = h.cell.lay; aim = h.cell.aim; there = h.cell.there; same = (c.reserve-2.ensures.first ∙ h.cell.same.0, c.reserve-2.ensures.entries ∙ h.cell.same.1) };
+      found = record { lay = h.cell.lay; aim = h.cell.aim; there = h.cell.there; same = (c.reserve-2.ensures.first ∙ h.cell.same.0, c.reserve-2.ensures.entries ∙ h.cell.same.1, c.reserve-2.ensures.cleaned ∙ h.cell.same.2) };
       noted = (h.noted.0, h.noted.1 ∙ ap (λ s. h.noted.0 ++ s.me.0.notes) e.seat);
     } in
     ok_and (IsJudgedBy c.args.self.now c.args.cell c.reserve-2.new.self.entries c.hold_cell-held.new.token c.access_held.new.token) (GivesValue c.reserve-2.new.self c.args.write) (IsAskedAbout c.args.self.now c.args.cell c.args.write t c.access_held.new.token) c.access_held.result

@@ -25,7 +25,7 @@ returns-clause-cell g c =
       lay = c.in-Some.held;
       aim = ap (λ (v : View). newest_aim v.turns) c.swap_cell.ensures.view ∙ aim_now b c.args.aim c.args.cell t u e.taken;
       there = ap (λ (v : View). newest_cell v.turns) c.swap_cell.ensures.view ∙ cell_now b c.args.aim c.args.cell t u e.taken ∙ ap cell_in there ∙ sym o.2 ∙ c.in-Some.is;
-      same = (refl, refl);
+      same = (refl, refl, refl);
     }
 
 pub returns-clause-quiet : goal.returns-clause-quiet

@@ -33,7 +33,7 @@ give-requires-clause-held c =
       tt,
       subst (λ (k : ℕ). LeavesCell (newest_aim (view_of c.args.token.now).turns) (left k) c.access.new.self) (c.column.ensures ∙ ap (λ k. k.column) d.track ∙ sym c.args.token.now.column)
           (leaves_access (newest_aim (view_of c.args.token.now).turns) c.requires.lies.lay c.args.held c.access.new.self (record { strand = c.column.result; stamp = c.draw-stamp.result }) c.is_some-wrote.result c.args.write x
-          c.requires.lies.same c.access.ensures.first c.access.ensures.entries c.is_some-wrote.ensures value),
+          c.requires.lies.same c.access.ensures.first c.access.ensures.cleaned c.access.ensures.entries c.is_some-wrote.ensures value),
     ))
 
 pub returns-clause-of : goal.returns-clause-of
