@@ -9,7 +9,10 @@ use Rattle.cw_steps.specs.declared.table.StrandToken.{StrandToken}
 use Rattle.cw_steps.specs.declared.view.WordNote.{WordNote}
 use Rattle.cw_steps.specs.Stands.{token_of}
 use Rattle.cw_steps.specs.Tracks.{track_of, TrackParts}
-use Rattle.cw_steps.specs.Views.{noted_view, view_of, LeavesIt}
+use Rattle.cw_steps.specs.Places.{turn_word}
+use Rattle.cw_steps.specs.declared.draw.Aim.{Aim}
+use Rattle.cw_steps.specs.declared.view.Key.{Key}
+use Rattle.cw_steps.specs.Views.{noted_view, view_of, LeavesIt, TakesIt}
 use Rattle.cw_board.specs.declared.asking.Moved.{Moved}
 use Rattle.cw_board.specs.declared.board.Board.{Board}
 use Rattle.cw_board.specs.declared.victims.Barrier.{Barrier}
@@ -86,6 +89,9 @@ noted_not t = ([], refl)
 
 pub noted_left : (word : ℕ) (s t u : StrandToken) → HasNoted s t → LeavesIt word t.seat.me u.seat.me → HasNoted s u
 noted_left word s t u h leaves = (record { word = word; value = leaves.0 } ∷ h.0, ap (λ m. m.0.notes) leaves.2 ∙ ap (λ ns. record { word = word; value = leaves.0 } ∷ ns) h.1)
+
+pub noted_taken : (key : Key) (aim : Aim) (n : ℕ) (s t u : StrandToken) → HasNoted s t → TakesIt key aim n t.seat.me u.seat.me → HasNoted s u
+noted_taken key aim n s t u h takes = (record { word = turn_word n; value = 0 } ∷ h.0, ap (λ m. m.0.notes) takes.after ∙ ap (λ ns. record { word = turn_word n; value = 0 } ∷ ns) h.1)
 
 pub waits_more : (word : ℕ) (s t u : StrandToken) → HasWaited s t → LeavesIt word t.seat.me u.seat.me → u.track ≡ t.track → u.stop ≡ t.stop → token_of u ≡ token_of t → HasWaited s u
 waits_more word s t u h leaves track stop token = record {

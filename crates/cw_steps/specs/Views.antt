@@ -30,7 +30,7 @@ use Rattle.cw_steps.specs.declared.view.Turn.{Turn}
 use Rattle.cw_steps.specs.declared.view.View.{View}
 use Rattle.cw_steps.specs.Around.{caught_up, innermost, outwards}
 use Rattle.cw_steps.specs.Passes.{IsAskedNow}
-use Rattle.cw_steps.specs.Places.{places_of_column, word_of_place}
+use Rattle.cw_steps.specs.Places.{places_of_column, turn_word, word_of_place}
 use Rattle.cw_steps.specs.Words.{row_of, IsInRow, IsStored}
 use Rattle.cw_steps.specs.declared.table.Shared.{Shared}
 use Rattle.cw_steps.specs.declared.table.StrandToken.{StrandToken}
@@ -332,7 +332,8 @@ abbrev pub HasAsked : Key → View → CellParts → Type 0
 HasAsked key v y = IfSome (newest_entry y.entries) (λ (e : Entry). IsAskedNow (cells_of key) key.columns e.mark v.column v.notes)
 
 -- An access needs the turn of its cell, taken for an access. If that cell has entries, a question about the newest one was asked
--- last, and let the access through. A read needs the value that the cell has.
+-- last, and let the access through. A take is noted too, so that question was not over before the take. A read needs the value that
+-- the cell has.
 pub record CanAccess (key : Key) (v : View) (c : ℕ) (wrote : Bool) (x : ℤ) : Type 0 where
   pub there : c < cells_of key
   pub turn : newest_slot v.turns ≡ Some c
@@ -363,9 +364,9 @@ tier_of slot.Empty = None
 abbrev pub turn_for : (n : ℕ) → Aim → Slot → (used : ℕ) → Turn
 turn_for n aim y used = record { slot = n; aim = aim; cell = cell_in y; tier = tier_of y; used = used; change = None }
 
--- after a take: the clock showed `clock`, and `y` lay in the slot
+-- after a take, which is noted: the turn was found free, the clock showed `clock`, and `y` lay in the slot
 abbrev pub took_view : (n : ℕ) → Aim → Slot → (used clock : ℕ) → View → View
-took_view n aim y used clock v = record v { seen = clock; turns = turn_for n aim y used ∷ v.turns }
+took_view n aim y used clock v = noted_view (turn_word n) 0 (record v { seen = clock; turns = turn_for n aim y used ∷ v.turns })
 
 -- a right strand whose fork was split uses the gap of its own column
 abbrev pub gap_home : Home → (column gap : ℕ) → ℕ

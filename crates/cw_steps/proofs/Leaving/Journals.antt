@@ -15,6 +15,7 @@ use Rattle.cw_steps.specs.declared.view.Key.{Key}
 use Rattle.cw_steps.specs.declared.view.Slot.{Slot}
 use Rattle.cw_steps.specs.declared.view.Slot.TheVariants as slot
 use Rattle.cw_steps.specs.declared.view.View.{View}
+use Rattle.cw_steps.specs.Places.{turn_word}
 use Rattle.cw_steps.specs.Views.{cell_in, gave_view, held_by, newest_aim, newest_cell, newest_change, newest_slot, newest_tier, newest_used, took_view, view_of, IsQuiet, IsWhole, TakesIt}
 
 pub looks_not : (me : Me Slot View) → HasReturned me me
@@ -76,7 +77,7 @@ module _ (key : Key) (n : ℕ) (t u : StrandToken) (takes : TakesIt key Look n t
     pub looked_then : (t' : StrandToken) → view_of t' ≡ gave_view home.Plain (view_of w) → held_by t' ≡ rest (held_by w) → HasReturned t.seat.me t'.seat.me
     looked_then t' view slots = record {
       seen = takes.clock;
-      notes = (view_of t).notes;
+      notes = record { word = turn_word n; value = 0 } ∷ (view_of t).notes;
       later = takes.later;
       after = λ i. ((view ∙ ap (gave_view home.Plain) view_now) i, (slots ∙ ap (λ ys. rest ys) held_now) i);
     }
