@@ -43,6 +43,7 @@ fn split_tier(tier: &mut Tier, fork: u32) -> Result<(), Early>
     ensures ok { OnOk result (IsSplitNow fork tier.old.columns tier.new.columns) }
     ensures changed { OnOk result (IsChanged fork tier.old tier.new) }
     ensures early { IfErr result (λ e. IsTooEarly fork e.before tier.old.columns tier.new.columns) }
+    ensures absent { IfErr result (λ e. (IsForkThere false tier.old.columns fork → ⊥) → e.before ≡ fork) }
     ensures same { OnErr result (tier.new ≡ tier.old) }
 {
     match split_state(tier, fork) {
@@ -179,7 +180,27 @@ impl Board {
         ensures err { OnErr result (token_of token.new ≡ token_of token.old) }
         ensures word { (track_of token.new.track).word ≡ (track_of token.old.track).word }
     {
-        let mut tier = self.hold_tier(rt, token, Aim::Split);
+        let tier = self.hold_tier(rt, token, Aim::Split);
+        self.split_held(token, tier, fork)
+    }
+
+    /// Splits the fork in the tier that is held, and puts the tier back. Returns `Early` with the next fork outward if that one has to
+    /// be split first. If the fork is not there or already split, `Early` names the fork itself.
+    fn split_held(&self, token: &mut StrandToken, tier: Tier, fork: u32) -> Result<(), Early>
+        requires held { (t : StrandToken) × (y : Slot) × IsHolding self.now (cells_in self.now) y t token.old }
+        requires tier { HasTier self.now (slot.Tier tier) token.old }
+        requires lay { newest_tier (view_of token.old).turns ≡ Some tier }
+        requires aim { newest_aim (view_of token.old).turns ≡ aims.Split }
+        requires quiet { IsQuiet (view_of token.old) }
+        requires fork { MaySplit (token_of token.old) fork }
+        ensures of { IsOf self.now token.new }
+        ensures ok { OnOk result (token_of token.new ≡ once_split (token_of token.old)) }
+        ensures err { OnErr result (token_of token.new ≡ token_of token.old) }
+        ensures early { IfErr result (λ e. IsTooEarly fork e.before tier.columns tier.columns) }
+        ensures absent { IfErr result (λ e. (IsForkThere false tier.columns fork → ⊥) → e.before ≡ fork) }
+        ensures word { (track_of token.new.track).word ≡ (track_of token.old.track).word }
+    {
+        let mut tier = tier;
         match split_tier(&mut tier, fork) {
             Ok(()) => {
                 let used = tier.used();
