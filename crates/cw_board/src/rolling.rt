@@ -2,11 +2,11 @@
 //! was begun, each cell is brought home once, cut before the first entry that is an access beneath the block; the cells come in the order
 //! of their numbers, so that no memory is needed to know which were brought home. If none was, the own log has all these accesses in the
 //! order of time, and one walk along it does.
-ghost use Rattle.std.specs.Prelude.{◌≡◌, ◌<◌, ℕ, drop, filter, nat_lt, Contains};
+ghost use Rattle.std.specs.Prelude.{◌≡◌, ◌<◌, ℕ, drop, false, filter, nat_lt, option_map, Contains};
 ghost use Rattle.cw_tree.specs.declared.node.BlockState.TheVariants.{Aborted};
 ghost use Rattle.cw_tree.specs.AccessStacks.{stamps};
 ghost use Rattle.cw_log.specs.Tokens.{ended, GoesBack, HasBlock};
-ghost use Rattle.cw_steps.specs.Beneath.{entries_before};
+ghost use Rattle.cw_steps.specs.Beneath.{cell_reached, entries_before};
 ghost use Rattle.cw_steps.specs.declared.draw.Aim.TheVariants as aims;
 ghost use Rattle.cw_steps.specs.Homes.{LeavesCell};
 ghost use Rattle.cw_steps.specs.Leaving.{HasReturned};
@@ -23,7 +23,9 @@ use cw_tree::{Kind, Node};
 use std::sync::Wait;
 
 /// Returns the cell that a node touched and its stamp, if the node is an access.
-fn access_of(node: &Node) -> Option<(u32, u64)> {
+fn access_of(node: &Node) -> Option<(u32, u64)>
+    ensures { result ≡ option_map (λ (c : ℕ). (c, node.now.stamp)) (cell_reached false node.now.kind) }
+{
     match node.kind {
         Kind::Read { cell, .. } | Kind::Write { cell, .. } => Some((cell, node.stamp)),
         _ => None,
@@ -34,6 +36,7 @@ fn access_of(node: &Node) -> Option<(u32, u64)> {
 /// there otherwise is not proved.
 fn cut_from(cell: &mut Cell, stamp: u64)
     ensures cut { Contains (stamps (drop cell.old.cleaned cell.old.entries)) stamp → cell.new.entries ≡ filter (λ e. nat_lt e.mark.stamp stamp) cell.old.entries }
+    ensures kept { (Contains (stamps (drop cell.old.cleaned cell.old.entries)) stamp → ⊥) → cell.new ≡ cell.old }
     ensures low { (most : ℕ) → IsLowCell most (slot.Cell cell.old) → IsLowCell most (slot.Cell cell.new) }
     ensures left { LeavesCell aims.Undo cell.old cell.new }
 {
