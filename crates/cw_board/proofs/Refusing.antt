@@ -80,7 +80,7 @@ newest_if P (Some e) last is p = subst (λ q. IfSome q P) is p
 pub has_asked : (b : Board) (last : Mark) (t u : StrandToken) (y : CellParts) → Some last ≡ option_map (λ (e : Entry). e.mark) (newest_entry y.entries) → u.track ≡ t.track → IsJudgedSince b last t u None → HasAsked (key_of b.shared) (view_of u) y
 has_asked b last t u y newest track h =
     newest_if (λ m. IsAskedNow (cells_in b) (columns_of b) m (view_of u).column (view_of u).notes) (newest_entry y.entries) last newest (record {
-      before = h.between ++ (view_of t).notes;
+      before = h.between;
       verdict = h.is.verdict;
       through = h.is.through;
       question = subst (λ (k : ℕ). IsAnswered (cells_in b) (columns_of b) last k (h.between ++ (view_of t).notes) (view_of u).notes h.is.verdict)

@@ -3,7 +3,7 @@ use Rattle.std.proofs.lemmas.Result.{err_from_is_err_and}
 use Rattle.cw_trace.specs.declared.verdict.Verdict.{Verdict}
 use Rattle.cw_steps.specs.Tracks.{track_of}
 use Rattle.cw_steps.specs.Views.{view_of}
-use Rattle.cw_board.specs.Asked.{IsAnswered}
+use Rattle.cw_steps.specs.Passes.{IsAnswered}
 use Rattle.cw_board.specs.Boards.{cells_in, columns_of}
 use Rattle.cw_board.proofs.Passes.{moved_asking, moved_searching}
 use Rattle.cw_board.proofs.Reading.{reads_then}
