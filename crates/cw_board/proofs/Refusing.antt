@@ -83,7 +83,7 @@ has_asked b last t u y newest track h =
       before = h.between;
       verdict = h.is.verdict;
       through = h.is.through;
-      question = subst (λ (k : ℕ). IsAnswered (cells_in b) (columns_of b) last k (h.between ++ (view_of t).notes) (view_of u).notes h.is.verdict)
+      question = subst (λ (k : ℕ). IsAnswered (cells_in b) (columns_of b) last k h.between (view_of u).notes h.is.verdict)
           (ap (λ x. (track_of x).column) (sym track) ∙ sym u.column) h.is.question;
     })
 
